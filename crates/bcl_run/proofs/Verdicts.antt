@@ -1,0 +1,179 @@
+-- When an input is refused, and when it is answered.
+use Rattle.std.proofs.Common.{◌≡◌, ◌∙◌, ℕ, ◌^◌, ◌<◌, ◌≤◌, ltb, List, [], ◌∷◌, length, Option, None, Some, IfSome, Err, ◌⊎◌, inl, inr, take, subst, arith, sym, ap, refl, length-append}
+use Rattle.std.specs.Option.{option_map, option_or}
+use Rattle.std.specs.Io.KnownBytes.{Consumes, Appends}
+use Rattle.std.proofs.lemmas.Bool.{cond-true, cond-false, lt-ltb, le-ltb}
+use Rattle.bcl_io.specs.declared.fault.ReadFault.{ReadFault}
+use Rattle.bcl_io.specs.declared.fault.ReadFault.TheVariants as reads
+use Rattle.bcl_io.specs.Faults.{Rose}
+use Rattle.kmer_text.specs.declared.fault.InputFault.{InputFault}
+use Rattle.kmer_text.specs.declared.lines.CutFault.{CutFault}
+use Rattle.kmer_text.specs.declared.lines.CutFault.TheVariants as cuts
+use Rattle.kmer_text.specs.declared.check.LetterFault.{LetterFault}
+use Rattle.kmer_text.specs.declared.check.LetterFault.TheVariants as letters
+use Rattle.kmer_text.specs.Lines.{lines}
+use Rattle.kmer_text.specs.Letters.{bad_letter}
+use Rattle.kmer_text.specs.Windows.{total}
+use Rattle.bcl_run.specs.declared.refusal.Refusal.{Refusal}
+use Rattle.bcl_run.specs.declared.refusal.Refusal.TheVariants.{TooManyBytes, TooManyLines, Line, TooManyWindows}
+use Rattle.bcl_run.specs.declared.settings.Settings.{Settings}
+use Rattle.bcl_run.specs.declared.settings.Settings.TheVariants.{Count}
+use Rattle.bcl_run.specs.declared.stop.Stop.{Stop}
+use Rattle.bcl_run.specs.declared.stop.Stop.TheVariants as stops
+use Rattle.bcl_run.specs.Count.{count_text}
+use Rattle.bcl_run.specs.Settings.{Reads}
+use Rattle.bcl_run.specs.Verdict.{Verdict, Usage, Text, Refused, IsVerdict, verdict, counted, unless, when, first_of, refusals}
+use Rattle.bcl_run.specs.Stop.{status_of, stop_of_read, stop_of_cut, stop_of_letters}
+use Rattle.bcl_run.specs.Owed.{Excuses, Owed, Devices, TookAll}
+use Rattle.bcl_run.proofs.Reading.{once}
+
+-- ---- the first reason that applies
+applies : (n m : ℕ) (why : Refusal) (rest : List (Option Refusal)) → n < m → first_of (when (ltb n m) why ∷ rest) ≡ Some why
+applies n m why rest h = ap (λ o. option_or o (first_of rest)) (cond-true (ltb n m) (Some why) None (lt-ltb n m h))
+
+passes : (n m : ℕ) (why : Refusal) (rest : List (Option Refusal)) → m ≤ n → first_of (when (ltb n m) why ∷ rest) ≡ first_of rest
+passes n m why rest h = ap (λ o. option_or o (first_of rest)) (cond-false (ltb n m) (Some why) None (le-ltb n m h))
+
+module _ (k : ℕ) (bytes : List ℕ) where
+  abbrev ls : List (List ℕ)
+  ls = lines bytes
+
+  abbrev windows_reason : List (Option Refusal)
+  windows_reason = when (ltb (2 ^ 23) (total k ls)) TooManyWindows ∷ []
+
+  abbrev letters_reasons : List (Option Refusal)
+  letters_reasons = option_map Line (bad_letter ls) ∷ windows_reason
+
+  abbrev lines_reasons : List (Option Refusal)
+  lines_reasons = when (ltb (2 ^ 22) (length ls)) TooManyLines ∷ letters_reasons
+
+  too_long : 2 ^ 26 < length bytes → first_of (refusals k bytes) ≡ Some TooManyBytes
+  unfolding refusals
+  too_long long = applies (2 ^ 26) (length bytes) TooManyBytes lines_reasons long
+
+  many_lines : length bytes ≤ 2 ^ 26 → 2 ^ 22 < length ls → first_of (refusals k bytes) ≡ Some TooManyLines
+  unfolding refusals
+  many_lines short many = passes (2 ^ 26) (length bytes) TooManyBytes lines_reasons short ∙ applies (2 ^ 22) (length ls) TooManyLines letters_reasons many
+
+  module _ (short : length bytes ≤ 2 ^ 26) (few : length ls ≤ 2 ^ 22) where
+    to_letters : first_of (refusals k bytes) ≡ first_of letters_reasons
+    unfolding refusals
+    to_letters = passes (2 ^ 26) (length bytes) TooManyBytes lines_reasons short ∙ passes (2 ^ 22) (length ls) TooManyLines letters_reasons few
+
+    bad_line : (fault : InputFault) → bad_letter ls ≡ Some fault → first_of (refusals k bytes) ≡ Some (Line fault)
+    bad_line fault bad = to_letters ∙ ap (λ o. option_or (option_map Line o) (first_of windows_reason)) bad
+
+    to_windows : bad_letter ls ≡ None → first_of (refusals k bytes) ≡ first_of windows_reason
+    to_windows none = to_letters ∙ ap (λ o. option_or (option_map Line o) (first_of windows_reason)) none
+
+    many_windows : bad_letter ls ≡ None → 2 ^ 23 < total k ls → first_of (refusals k bytes) ≡ Some TooManyWindows
+    many_windows none many = to_windows none ∙ applies (2 ^ 23) (total k ls) TooManyWindows [] many
+
+    accepted : bad_letter ls ≡ None → total k ls ≤ 2 ^ 23 → first_of (refusals k bytes) ≡ None
+    accepted none small = to_windows none ∙ passes (2 ^ 23) (total k ls) TooManyWindows [] small
+
+-- ---- the verdict on a count
+pub refuses : (k least : ℕ) (bytes : List ℕ) (why : Refusal) → first_of (refusals k bytes) ≡ Some why → counted k least bytes ≡ Refused why
+refuses k least bytes why e = ap (λ o. unless o (count_text k least (lines bytes))) e
+
+pub answers : (k least : ℕ) (bytes : List ℕ) → length bytes ≤ 2 ^ 26 → length (lines bytes) ≤ 2 ^ 22 → bad_letter (lines bytes) ≡ None → total k (lines bytes) ≤ 2 ^ 23
+    → counted k least bytes ≡ Text (count_text k least (lines bytes))
+answers k least bytes short few none small = ap (λ o. unless o (count_text k least (lines bytes))) (accepted k bytes short few none small)
+
+pub cut_excuses : (k least : ℕ) (bytes : List ℕ) (fault : CutFault) → length bytes ≤ 2 ^ 26 → (fault ≡ cuts.TooManyLines → 2 ^ 22 < length (lines bytes))
+    → Excuses (counted k least bytes) (stop_of_cut fault)
+cut_excuses k least bytes cuts.NoMemory short many = tt
+cut_excuses k least bytes cuts.TooManyLines short many = refuses k least bytes TooManyLines (many_lines k bytes short (many refl))
+
+pub letters_excuse : (k least : ℕ) (bytes : List ℕ) (fault : LetterFault) → length bytes ≤ 2 ^ 26 → length (lines bytes) ≤ 2 ^ 22
+    → ((line : InputFault) → fault ≡ letters.Bad line → bad_letter (lines bytes) ≡ Some line)
+    → (fault ≡ letters.TooManyWindows → (bad_letter (lines bytes) ≡ None) × (2 ^ 23 < total k (lines bytes)))
+    → Excuses (counted k least bytes) (stop_of_letters fault)
+letters_excuse k least bytes (letters.Bad line) short few bad many = refuses k least bytes (Line line) (bad_line k bytes short few line (bad line refl))
+letters_excuse k least bytes letters.TooManyWindows short few bad many = refuses k least bytes TooManyWindows (many_windows k bytes short few (many refl).0 (many refl).1)
+
+-- what no fault is named for has none
+pub none_named : (o : Option InputFault) → ((fault : InputFault) → o ≡ Some fault → ⊥) → o ≡ None
+none_named None none = refl
+none_named (Some fault) none = absurd (none fault refl)
+
+-- ---- what was read
+consumed_length : (left new : Option (List ℕ)) (taken : List ℕ) → Consumes left new taken → IfSome left (λ bytes. length taken ≤ length bytes)
+consumed_length None new taken c = tt
+consumed_length (Some xs) None taken c = absurd c
+consumed_length (Some xs) (Some ys) taken c = omega (arith, ap length c, length-append taken ys)
+
+-- too many bytes are refused whatever is asked for
+long_refused : (settings : Settings) (bytes : List ℕ) → 2 ^ 26 < length bytes → verdict (Some settings) bytes ≡ Refused TooManyBytes
+long_refused (Count k ranks min choice hist) bytes long = refuses k min bytes TooManyBytes (too_long k bytes long)
+
+too_large : (words : List (List ℕ)) (settings : Settings) (left new : Option (List ℕ)) (taken : List ℕ) → Reads words (Some settings) → 2 ^ 26 < length taken → Consumes left new taken
+    → IfSome left (λ bytes. IsVerdict words bytes (Refused TooManyBytes))
+too_large words settings None new taken asks long c = tt
+too_large words settings (Some bytes) new taken asks long c =
+    (Some settings, asks, long_refused settings bytes (omega (arith, consumed_length (Some bytes) new taken c)))
+
+pub read_owes : (words : List (List ℕ)) (d : Devices) (settings : Settings) (fault : ReadFault) → Reads words (Some settings)
+    → (fault ≡ reads.Failed → Rose d.read_faults_before d.read_faults_after) → ((fault ≡ reads.Failed → ⊥) → d.read_faults_after ≡ d.read_faults_before)
+    → (fault ≡ reads.TooLarge → (taken : List ℕ) × (2 ^ 26 < length taken) × Consumes d.left_before d.left_after taken)
+    → Owed words d (Err (stop_of_read fault))
+read_owes words d settings reads.Failed asks failed same large = failed refl
+read_owes words d settings reads.NoMemory asks failed same large = tt
+read_owes words d settings reads.TooLarge asks failed same large =
+    let l = large refl in (same (λ e. cc), too_large words settings d.left_before d.left_after l.0 asks l.1 l.2)
+
+-- ---- one verdict
+one_verdict : (words : List (List ℕ)) (bytes : List ℕ) (v w : Verdict) → IsVerdict words bytes v → IsVerdict words bytes w → v ≡ w
+one_verdict words bytes v w p q = sym p.2 ∙ (ap (λ settings. verdict settings bytes) (once words p.0 q.0 p.1 q.1) ∙ q.2)
+
+at_some : {X : Type 0} (o : Option X) (x : X) (P : X → Type 0) → o ≡ Some x → IfSome o P → P x
+at_some {X = X} o x P e h = let Q : Option X → Type 0 = λ p. IfSome p P in subst Q e h
+
+with_reason : (words : List (List ℕ)) (left : Option (List ℕ)) (why : Refusal) → IfSome left (λ bytes. IsVerdict words bytes (Refused why))
+    → IfSome left (λ bytes. (reason : Refusal) × IsVerdict words bytes (Refused reason))
+with_reason words None why h = tt
+with_reason words (Some bytes) why h = (why, h)
+
+-- ---- what each status says
+pub status_refused : (words : List (List ℕ)) (d : Devices) (stop : Stop) → Owed words d (Err stop) → status_of stop ≡ 1
+    → IfSome d.left_before (λ bytes. (why : Refusal) × IsVerdict words bytes (Refused why))
+status_refused words d (stops.Refused why) o e = with_reason words d.left_before why o.1
+status_refused words d stops.Usage o e = absurd (omega arith)
+status_refused words d stops.ReadFault o e = absurd (omega arith)
+status_refused words d stops.WriteFault o e = absurd (omega arith)
+status_refused words d stops.NoMemory o e = absurd (omega arith)
+
+module _ (words : List (List ℕ)) (d : Devices) (bytes : List ℕ) (told : d.left_before ≡ Some bytes) (no_fault : Rose d.read_faults_before d.read_faults_after → ⊥) where
+  -- an input that has a text gets it
+  pub completes : (stop : Stop) (text : List ℕ) → Owed words d (Err stop) → IsVerdict words bytes (Text text) → (Rose d.write_faults_before d.write_faults_after → ⊥)
+      → (status_of stop ≡ 0) ⊎ (status_of stop ≡ 5)
+  completes (stops.Refused why) text o v no_write =
+      let refused = at_some d.left_before bytes (λ b. IsVerdict words b (Refused why)) told o.1 in
+      let same : Refused why ≡ Text text = one_verdict words bytes (Refused why) (Text text) refused v in
+      absurd (cc)
+  completes stops.Usage text o v no_write =
+      let same : Usage ≡ Text text = one_verdict words bytes Usage (Text text) (None, o, refl) v in
+      absurd (cc)
+  completes stops.ReadFault text o v no_write = absurd (no_fault o)
+  completes stops.WriteFault text o v no_write = absurd (no_write o.0)
+  completes stops.NoMemory text o v no_write = inr refl
+
+  -- one that is refused gets its refusal
+  pub refuses_it : (stop : Stop) (why : Refusal) → Owed words d (Err stop) → IsVerdict words bytes (Refused why) → (status_of stop ≡ 1) ⊎ (status_of stop ≡ 5)
+  refuses_it (stops.Refused why') why o v = inl refl
+  refuses_it stops.Usage why o v =
+      let same : Usage ≡ Refused why = one_verdict words bytes Usage (Refused why) (None, o, refl) v in
+      absurd (cc)
+  refuses_it stops.ReadFault why o v = absurd (no_fault o)
+  refuses_it stops.WriteFault why o v =
+      let took = at_some d.left_before bytes (λ b. (text : List ℕ) × IsVerdict words b (Text text) × (n : ℕ) × Appends d.taken_before d.taken_after (take n text)) told o.1 in
+      let same : Text took.0 ≡ Refused why = one_verdict words bytes (Text took.0) (Refused why) took.1 v in
+      absurd (cc)
+  refuses_it stops.NoMemory why o v = inr refl
+
+  -- and no text
+  pub never_text : (why : Refusal) → TookAll words d → IsVerdict words bytes (Refused why) → ⊥
+  never_text why o v =
+      let took = at_some d.left_before bytes (λ b. (text : List ℕ) × IsVerdict words b (Text text) × Appends d.taken_before d.taken_after text) told o in
+      let same : Text took.0 ≡ Refused why = one_verdict words bytes (Text took.0) (Refused why) took.1 v in
+      absurd (cc)

@@ -1,0 +1,52 @@
+-- What the program owes a list of words and an input.
+-- The reasons to refuse are tried in order, and the first that applies is the verdict.
+use Rattle.std.specs.Prelude.{◌≡◌, ℕ, ◌^◌, nat_lt, Bool, List, [], ◌∷◌, Option, Some, None, length, if◌then◌else◌}
+use Rattle.std.specs.Option.{option_map, option_or}
+use Rattle.kmer_text.specs.Lines.{lines}
+use Rattle.kmer_text.specs.Letters.{bad_letter}
+use Rattle.kmer_text.specs.Windows.{total}
+use Rattle.bcl_run.specs.declared.refusal.Refusal.{Refusal}
+use Rattle.bcl_run.specs.declared.refusal.Refusal.TheVariants.{TooManyBytes, TooManyLines, Line, TooManyWindows}
+use Rattle.bcl_run.specs.declared.settings.Settings.{Settings}
+use Rattle.bcl_run.specs.declared.settings.Settings.TheVariants.{Count}
+use Rattle.bcl_run.specs.Settings.{Reads}
+use Rattle.bcl_run.specs.Count.{count_text}
+
+pub data Verdict : Type 0 where
+  Usage : Verdict
+  Refused : (why : Refusal) → Verdict
+  Text : (text : List ℕ) → Verdict
+
+abbrev pub when : {A : Type 0} → Bool → A → Option A
+when test x = if test then Some x else None
+
+-- the first that is there
+abbrev pub first_of : {A : Type 0} → List (Option A) → Option A
+first_of [] = None
+first_of (reason ∷ reasons) = option_or reason (first_of reasons)
+
+-- the reasons to refuse a count of the bytes
+unfoldable pub refusals : ℕ → List ℕ → List (Option Refusal)
+refusals k bytes =
+    when (nat_lt (2 ^ 26) (length bytes)) TooManyBytes
+    ∷ when (nat_lt (2 ^ 22) (length (lines bytes))) TooManyLines
+    ∷ option_map Line (bad_letter (lines bytes))
+    ∷ when (nat_lt (2 ^ 23) (total k (lines bytes))) TooManyWindows
+    ∷ []
+
+-- the text, unless a reason to refuse applies
+abbrev pub unless : Option Refusal → List ℕ → Verdict
+unless (Some why) text = Refused why
+unless None text = Text text
+
+-- the verdict on a count of the bytes
+abbrev pub counted : ℕ → ℕ → List ℕ → Verdict
+counted k least bytes = unless (first_of (refusals k bytes)) (count_text k least (lines bytes))
+
+abbrev pub verdict : Option Settings → List ℕ → Verdict
+verdict None bytes = Usage
+verdict (Some (Count k ranks min choice hist)) bytes = counted k min bytes
+
+-- the verdict on words and bytes
+abbrev pub IsVerdict : List (List ℕ) → List ℕ → Verdict → Type 0
+IsVerdict words bytes v = (settings : Option Settings) × Reads words settings × (verdict settings bytes ≡ v)

@@ -1,0 +1,106 @@
+//! The whole program over its devices.
+
+ghost use Rattle.std.specs.Prelude.{◌≡◌, ◌≢◌, ℕ, ◌≤◌, ◌⊎◌, ◌↔◌, List, take, map, string_bytes, IfSome, Some, None, IsErrOf};
+ghost use Rattle.std.specs.Io.KnownBytes.{Appends, IsAtEnd};
+ghost use Rattle.bcl_io.specs.Faults.{Rose};
+ghost use Rattle.bcl_run.specs.Settings.{Reads};
+ghost use Rattle.bcl_run.specs.Verdict.{Text, Refused, IsVerdict};
+ghost use Rattle.bcl_run.specs.declared.refusal.Refusal.{Refusal as AnyRefusal};
+ghost use Rattle.bcl_run.specs.declared.stop.Stop.TheVariants as stops;
+ghost use Rattle.bcl_run.specs.Owed.{Owed, WroteNothing, devices};
+
+use crate::answer::{MAX_BYTES, answer};
+use crate::settings_of;
+use crate::stop::Stop;
+use bcl_io::{Sink, Source, read_all, write_all};
+use std::alloc::Global;
+use std::thread::Threads;
+
+/// The book of the map that a run counted in. A run without a shared map has none.
+#[derive(Clone, Copy, Debug, PartialEq, Eq)]
+pub enum Book {
+    None,
+}
+
+/// How a run ended.
+#[derive(Clone, Copy, Debug, PartialEq, Eq)]
+pub struct Ended {
+    /// 0 done, 1 input refused, 2 usage, 3 read fault, 4 write fault, 5 want of memory.
+    pub status: u8,
+    pub book: Book,
+}
+
+/// Reads the input and writes the text. No memory is taken before the words are read, nor from the first write on.
+fn run<S: Source, O: Sink>(
+    alloc: Global,
+    words: &[String],
+    src: &mut S,
+    out: &mut O,
+) -> Result<(), Stop>
+    ensures owed { Owed (map string_bytes words.now) (devices S.left S.faults O.taken O.faults src.old src.new out.old out.new) result }
+    ensures usage { Reads (map string_bytes words.now) None → IsErrOf result stops.Usage }
+    ensures unread { IsErrOf result stops.Usage → src.new ≡ src.old }
+    ensures untouched { WroteNothing result → out.new ≡ out.old }
+{
+    let Some(settings) = settings_of(words) else {
+        return Err(Stop::Usage);
+    };
+    let bytes = read_all(alloc, src, MAX_BYTES)?;
+    let text = answer(alloc, &settings, bytes)?;
+    write_all(out, &text)?;
+    Ok(())
+}
+
+/// Runs the program on the words behind its name.
+///
+/// It reads `src` to its end, writes the text to `out` by whole pieces, and ends with a status. `err` isn't used yet, and
+/// `rt` starts no thread yet.
+pub fn top<H: Threads + Sync, S: Source, O: Sink, E: Sink>(
+    rt: &H,
+    alloc: Global,
+    words: &[String],
+    src: &mut S,
+    out: &mut O,
+    err: &mut E,
+) -> Ended
+    // Status 0: the source was read to its end, and the sink took just the text of the verdict.
+    ensures text { result.status ≡ 0 → IfSome (S.left src.old) (λ bytes.
+        (text : List ℕ) × IsVerdict (map string_bytes words.now) bytes (Text text) × Appends (O.taken out.old) (O.taken out.new) text) }
+    ensures read_whole { result.status ≡ 0 → IsAtEnd (S.left src.new) × (S.faults src.new ≡ S.faults src.old) }
+
+    // Status 1: the source was read with no fault, and what it had left is refused.
+    ensures refused { result.status ≡ 1 → IfSome (S.left src.old) (λ bytes.
+        (why : AnyRefusal) × IsVerdict (map string_bytes words.now) bytes (Refused why)) }
+    ensures no_read_fault { result.status ≡ 1 → S.faults src.new ≡ S.faults src.old }
+
+    // Status 2: the words ask for nothing, and nothing was read.
+    ensures usage { (result.status ≡ 2) ↔ Reads (map string_bytes words.now) None }
+    ensures unread { result.status ≡ 2 → src.new ≡ src.old }
+
+    // Statuses 3 and 4: a device failed, and of the text a front was written.
+    ensures read_fault { result.status ≡ 3 → Rose (S.faults src.old) (S.faults src.new) }
+    ensures write_fault { result.status ≡ 4 → Rose (O.faults out.old) (O.faults out.new) }
+    ensures front { result.status ≡ 4 → IfSome (S.left src.old) (λ bytes.
+        (text : List ℕ) × IsVerdict (map string_bytes words.now) bytes (Text text) × (n : ℕ) × Appends (O.taken out.old) (O.taken out.new) (take n text)) }
+
+    // The other statuses leave the sinks as they were, and no status is above 5.
+    ensures untouched { result.status ≢ 0 → result.status ≢ 4 → out.new ≡ out.old }
+    ensures silent { err.new ≡ err.old }
+    ensures known { result.status ≤ 5 }
+
+    // Where no device failed, an input gets its text or its refusal, unless memory runs out.
+    ensures complete { (bytes text : List ℕ) → S.left src.old ≡ Some bytes → IsVerdict (map string_bytes words.now) bytes (Text text)
+        → (Rose (S.faults src.old) (S.faults src.new) → ⊥) → (Rose (O.faults out.old) (O.faults out.new) → ⊥)
+        → (result.status ≡ 0) ⊎ (result.status ≡ 5) }
+    ensures refuses { (bytes : List ℕ) (why : AnyRefusal) → S.left src.old ≡ Some bytes → IsVerdict (map string_bytes words.now) bytes (Refused why)
+        → (Rose (S.faults src.old) (S.faults src.new) → ⊥) → (result.status ≡ 1) ⊎ (result.status ≡ 5) }
+{
+    let status = match run(alloc, words, src, out) {
+        Ok(()) => 0,
+        Err(stop) => stop.status(),
+    };
+    Ended {
+        status,
+        book: Book::None,
+    }
+}

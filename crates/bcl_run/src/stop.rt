@@ -1,0 +1,83 @@
+//! Why a run ends without its text, and the status that says so.
+
+ghost use Rattle.std.specs.Prelude.{◌≡◌};
+ghost use Rattle.bcl_run.specs.Stop.{status_of, stop_of_read, stop_of_cut, stop_of_letters};
+ghost use Rattle.bcl_run.specs.declared.stop.Stop.TheVariants as stops;
+
+use crate::Refusal;
+use bcl_io::{Failed, ReadFault};
+use bcl_words::NoMemory;
+use kmer_text::{CutFault, LetterFault};
+
+#[derive(Clone, Copy, Debug, PartialEq, Eq)]
+pub(crate) enum Stop {
+    Refused(Refusal),
+    Usage,
+    ReadFault,
+    WriteFault,
+    NoMemory,
+}
+
+impl Stop {
+    pub(crate) fn status(self) -> u8
+        ensures { result ≡ status_of self }
+    {
+        match self {
+            Stop::Refused(_) => 1,
+            Stop::Usage => 2,
+            Stop::ReadFault => 3,
+            Stop::WriteFault => 4,
+            Stop::NoMemory => 5,
+        }
+    }
+}
+
+impl From<NoMemory> for Stop {
+    ghost from_gives = { λ _ stop. stop ≡ stops.NoMemory };
+
+    fn from(_: NoMemory) -> Self {
+        Stop::NoMemory
+    }
+}
+
+impl From<ReadFault> for Stop {
+    ghost from_gives = { λ fault stop. stop ≡ stop_of_read fault };
+
+    fn from(fault: ReadFault) -> Self {
+        match fault {
+            ReadFault::NoMemory => Stop::NoMemory,
+            ReadFault::Failed => Stop::ReadFault,
+            ReadFault::TooLarge => Stop::Refused(Refusal::TooManyBytes),
+        }
+    }
+}
+
+impl From<CutFault> for Stop {
+    ghost from_gives = { λ fault stop. stop ≡ stop_of_cut fault };
+
+    fn from(fault: CutFault) -> Self {
+        match fault {
+            CutFault::NoMemory => Stop::NoMemory,
+            CutFault::TooManyLines => Stop::Refused(Refusal::TooManyLines),
+        }
+    }
+}
+
+impl From<LetterFault> for Stop {
+    ghost from_gives = { λ fault stop. stop ≡ stop_of_letters fault };
+
+    fn from(fault: LetterFault) -> Self {
+        match fault {
+            LetterFault::Bad(line) => Stop::Refused(Refusal::Line(line)),
+            LetterFault::TooManyWindows => Stop::Refused(Refusal::TooManyWindows),
+        }
+    }
+}
+
+impl From<Failed> for Stop {
+    ghost from_gives = { λ _ stop. stop ≡ stops.WriteFault };
+
+    fn from(_: Failed) -> Self {
+        Stop::WriteFault
+    }
+}

@@ -1,0 +1,19 @@
+use std::alloc::{AllocError, AllocFailed};
+use thiserror::Error;
+
+/// No memory was found. The call that answers it says what it left unchanged.
+#[derive(Clone, Copy, Debug, PartialEq, Eq, Hash, Error)]
+#[error("out of memory")]
+pub struct NoMemory;
+
+impl From<AllocError> for NoMemory {
+    fn from(_: AllocError) -> Self {
+        NoMemory
+    }
+}
+
+impl<T: Drop> From<AllocFailed<T>> for NoMemory {
+    fn from(_: AllocFailed<T>) -> Self {
+        NoMemory
+    }
+}

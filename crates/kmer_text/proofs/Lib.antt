@@ -1,0 +1,7 @@
+pub mod Ranges
+pub mod Numbers
+pub mod AllWords
+pub mod Runs
+pub mod Cuts
+pub mod BadLetters
+pub mod Rolling

@@ -1,0 +1,4 @@
+pub mod Lines
+pub mod Letters
+pub mod Windows
+pub mod Kmers

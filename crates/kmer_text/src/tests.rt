@@ -1,0 +1,82 @@
+//! Worked examples of lines, windows and packed words.
+
+use crate::{CutFault, InputFault, Kind, Kmer, LetterFault, Lines, Windows, check_letters, window};
+use std::alloc::Global;
+use std::test::Fail;
+
+fn cut(alloc: Global, text: &[u8]) -> Result<Result<Lines, CutFault>, Fail> {
+    Ok(Lines::cut(alloc, text.to_vec(alloc)?))
+}
+
+/// The lines of a text, each followed by a bar.
+fn barred(alloc: Global, text: &[u8]) -> Result<Vec<u8>, Fail> {
+    let lines = cut(alloc, text)??;
+    let mut all = Vec::new(alloc);
+    for i in 0..lines.count() {
+        all.extend_from_slice(lines.line(i))?;
+        all.push(b'|')?;
+    }
+    Ok(all)
+}
+
+#[test]
+fn a_text_is_cut_at_each_newline(rt: HostRuntime) -> Result<(), Fail> {
+    let cases = [
+        (b"".as_slice(), b"".as_slice()),
+        (b"\n", b"|"),
+        (b"AC\nG", b"AC|G|"),
+        (b"AC\r\nG\r", b"AC|G|"),
+        (b"\r", b"|"),
+        (b"A\r\r\n\nC\n", b"A\r||C|"),
+    ];
+    for (text, lines) in cases {
+        let all = barred(rt.alloc(), text)?;
+        assert_eq!(rt; all.as_slice(), lines, "in {text:?}");
+    }
+    Ok(())
+}
+
+#[test]
+fn words_are_packed_with_the_first_letter_highest(rt: HostRuntime) {
+    let packed = [(b"ACG", 6), (b"CGT", 27), (b"GTA", 44)];
+    for (at, (word, bits)) in packed.into_iter().enumerate() {
+        let kmer = Kmer { bits };
+        let mut letters = [0u8; 3];
+        kmer.letters(3, &mut letters);
+        assert_eq!(rt; &letters, word);
+        assert_eq!(rt; window(b"ACGTA", at, 3), kmer, "of {word:?}");
+    }
+}
+
+#[test]
+fn a_line_has_its_windows_in_order(rt: HostRuntime) {
+    let mut all = Windows::new(b"ACGTA", 3);
+    for bits in [6, 27, 44] {
+        assert_eq!(rt; all.next(), Some(Kmer { bits }));
+    }
+    assert_eq!(rt; all.next(), None);
+    assert_eq!(rt; Windows::new(b"AC", 3).next(), None);
+    assert_eq!(rt; Windows::new(b"T", 1).next(), Some(Kmer { bits: 3 }));
+}
+
+#[test]
+fn the_first_bad_line_is_named(rt: HostRuntime) -> Result<(), Fail> {
+    let alloc = rt.alloc();
+    assert_eq!(rt; check_letters(&cut(alloc, b"ACGT\n\nAC\n")??, 3), Ok(2));
+    for (text, line) in [
+        (b"ACGX\nN\n".as_slice(), 1),
+        (b"\n\nACGN\n", 3),
+        (b"acg\n", 1),
+    ] {
+        let bad = LetterFault::Bad(InputFault {
+            line,
+            kind: Kind::Letter,
+        });
+        assert_eq!(rt;
+            check_letters(&cut(alloc, text)??, 3),
+            Err(bad),
+            "in {text:?}"
+        );
+    }
+    Ok(())
+}
