@@ -5,3 +5,4 @@ pub mod Rows
 pub mod Numerals
 pub mod Reading
 pub mod Verdicts
+pub mod Told

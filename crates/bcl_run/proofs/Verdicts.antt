@@ -2,7 +2,9 @@
 use Rattle.std.proofs.Common.{◌≡◌, ◌∙◌, ℕ, ◌^◌, ◌<◌, ◌≤◌, ltb, List, [], ◌∷◌, length, Option, None, Some, IfSome, Err, ◌⊎◌, inl, inr, take, subst, arith, sym, ap, refl, length-append}
 use Rattle.std.specs.Option.{option_map, option_or}
 use Rattle.std.specs.Io.KnownBytes.{Consumes, Appends}
-use Rattle.std.proofs.lemmas.Bool.{cond-true, cond-false, lt-ltb, le-ltb}
+use Rattle.std.proofs.lemmas.Bool.{lt-ltb, le-ltb}
+use Rattle.bcl_words.specs.Reasons.{when, first_of}
+use Rattle.bcl_words.proofs.ReasonsLemmas.{first_of-applies, first_of-passes}
 use Rattle.bcl_io.specs.declared.fault.ReadFault.{ReadFault}
 use Rattle.bcl_io.specs.declared.fault.ReadFault.TheVariants as reads
 use Rattle.bcl_io.specs.Faults.{Rose}
@@ -22,17 +24,17 @@ use Rattle.bcl_run.specs.declared.stop.Stop.{Stop}
 use Rattle.bcl_run.specs.declared.stop.Stop.TheVariants as stops
 use Rattle.bcl_run.specs.Count.{count_text}
 use Rattle.bcl_run.specs.Settings.{Reads}
-use Rattle.bcl_run.specs.Verdict.{Verdict, Usage, Text, Refused, IsVerdict, verdict, counted, unless, when, first_of, refusals}
+use Rattle.bcl_run.specs.Verdict.{Verdict, Usage, Text, Refused, IsVerdict, verdict, counted, unless, refusals}
 use Rattle.bcl_run.specs.Stop.{status_of, stop_of_read, stop_of_cut, stop_of_letters}
 use Rattle.bcl_run.specs.Owed.{Excuses, Owed, Devices, TookAll}
 use Rattle.bcl_run.proofs.Reading.{once}
 
 -- ---- the first reason that applies
 applies : (n m : ℕ) (why : Refusal) (rest : List (Option Refusal)) → n < m → first_of (when (ltb n m) why ∷ rest) ≡ Some why
-applies n m why rest h = ap (λ o. option_or o (first_of rest)) (cond-true (ltb n m) (Some why) None (lt-ltb n m h))
+applies n m why rest h = first_of-applies (ltb n m) why rest (lt-ltb n m h)
 
 passes : (n m : ℕ) (why : Refusal) (rest : List (Option Refusal)) → m ≤ n → first_of (when (ltb n m) why ∷ rest) ≡ first_of rest
-passes n m why rest h = ap (λ o. option_or o (first_of rest)) (cond-false (ltb n m) (Some why) None (le-ltb n m h))
+passes n m why rest h = first_of-passes (ltb n m) why rest (le-ltb n m h)
 
 module _ (k : ℕ) (bytes : List ℕ) where
   abbrev ls : List (List ℕ)
@@ -123,7 +125,7 @@ read_owes words d settings reads.TooLarge asks failed same large =
     let l = large refl in (same (λ e. cc), too_large words settings d.left_before d.left_after l.0 asks l.1 l.2)
 
 -- ---- one verdict
-one_verdict : (words : List (List ℕ)) (bytes : List ℕ) (v w : Verdict) → IsVerdict words bytes v → IsVerdict words bytes w → v ≡ w
+pub one_verdict : (words : List (List ℕ)) (bytes : List ℕ) (v w : Verdict) → IsVerdict words bytes v → IsVerdict words bytes w → v ≡ w
 one_verdict words bytes v w p q = sym p.2 ∙ (ap (λ settings. verdict settings bytes) (once words p.0 q.0 p.1 q.1) ∙ q.2)
 
 at_some : {X : Type 0} (o : Option X) (x : X) (P : X → Type 0) → o ≡ Some x → IfSome o P → P x

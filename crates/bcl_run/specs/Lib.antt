@@ -4,3 +4,4 @@ pub mod Verdict
 pub mod Stop
 pub mod Owed
 pub mod Tally
+pub mod Message

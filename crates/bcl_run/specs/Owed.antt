@@ -64,3 +64,7 @@ Excuses v stops.NoMemory = Unit {0}
 Excuses v stops.Usage = ⊥
 Excuses v stops.ReadFault = ⊥
 Excuses v stops.WriteFault = ⊥
+
+-- a sink took just a message, unless its faults rose
+abbrev pub Tells : (faults faults' : ℕ) (taken taken' : Option (List ℕ)) (message : List ℕ) → Type 0
+Tells faults faults' taken taken' message = (Rose faults faults' → ⊥) → Appends taken taken' message

@@ -1,7 +1,8 @@
 -- What the program owes a list of words and an input.
 -- The reasons to refuse are tried in order, and the first that applies is the verdict.
-use Rattle.std.specs.Prelude.{◌≡◌, ℕ, ◌^◌, nat_lt, Bool, List, [], ◌∷◌, Option, Some, None, length, if◌then◌else◌}
-use Rattle.std.specs.Option.{option_map, option_or}
+use Rattle.std.specs.Prelude.{◌≡◌, ℕ, ◌^◌, nat_lt, List, [], ◌∷◌, Option, Some, None, length}
+use Rattle.std.specs.Option.{option_map}
+use Rattle.bcl_words.specs.Reasons.{when, first_of}
 use Rattle.kmer_text.specs.Lines.{lines}
 use Rattle.kmer_text.specs.Letters.{bad_letter}
 use Rattle.kmer_text.specs.Windows.{total}
@@ -16,14 +17,6 @@ pub data Verdict : Type 0 where
   Usage : Verdict
   Refused : (why : Refusal) → Verdict
   Text : (text : List ℕ) → Verdict
-
-abbrev pub when : {A : Type 0} → Bool → A → Option A
-when test x = if test then Some x else None
-
--- the first that is there
-abbrev pub first_of : {A : Type 0} → List (Option A) → Option A
-first_of [] = None
-first_of (reason ∷ reasons) = option_or reason (first_of reasons)
 
 -- the reasons to refuse a count of the bytes
 unfoldable pub refusals : ℕ → List ℕ → List (Option Refusal)

@@ -9,11 +9,13 @@
 //! - `answer`: the text that an input asks for, or why it is refused.
 //! - `refusal`: why an input is refused.
 //! - `stop`: why a run ends without its text, and the status that says so.
+//! - `message`: what the program says of a run without a text.
 //! - `tally`: the plain count of k-mers in an ordered map.
 //! - `text`: the rows of a count.
 #![tactic(auto)]
 
 mod answer;
+mod message;
 mod number;
 mod program;
 mod refusal;

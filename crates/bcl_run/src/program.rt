@@ -7,9 +7,11 @@ ghost use Rattle.bcl_run.specs.Settings.{Reads};
 ghost use Rattle.bcl_run.specs.Verdict.{Text, Refused, IsVerdict};
 ghost use Rattle.bcl_run.specs.declared.refusal.Refusal.{Refusal as AnyRefusal};
 ghost use Rattle.bcl_run.specs.declared.stop.Stop.TheVariants as stops;
-ghost use Rattle.bcl_run.specs.Owed.{Owed, WroteNothing, devices};
+ghost use Rattle.bcl_run.specs.Message.{refusal_message, usage_message, read_fault_message, write_fault_message, no_memory_message};
+ghost use Rattle.bcl_run.specs.Owed.{Tells, Owed, WroteNothing, devices};
 
 use crate::answer::{MAX_BYTES, answer};
+use crate::message::tell;
 use crate::settings_of;
 use crate::stop::Stop;
 use bcl_io::{Sink, Source, read_all, write_all};
@@ -53,8 +55,8 @@ fn run<S: Source, O: Sink>(
 
 /// Runs the program on the words behind its name.
 ///
-/// It reads `src` to its end, writes the text to `out` by whole pieces, and ends with a status. `err` isn't used yet, and
-/// `rt` starts no thread yet.
+/// It reads `src` to its end, writes the text to `out`, and ends with a status. With a status other than 0 it writes a
+/// message to `err`. `rt` starts no thread yet.
 pub fn top<H: Threads + Sync, S: Source, O: Sink, E: Sink>(
     rt: &H,
     alloc: Global,
@@ -83,10 +85,23 @@ pub fn top<H: Threads + Sync, S: Source, O: Sink, E: Sink>(
     ensures front { result.status ≡ 4 → IfSome (S.left src.old) (λ bytes.
         (text : List ℕ) × IsVerdict (map string_bytes words.now) bytes (Text text) × (n : ℕ) × Appends (O.taken out.old) (O.taken out.new) (take n text)) }
 
-    // The other statuses leave the sinks as they were, and no status is above 5.
+    // The statuses without a text leave its sink as it was, and no status is above 5.
     ensures untouched { result.status ≢ 0 → result.status ≢ 4 → out.new ≡ out.old }
-    ensures silent { err.new ≡ err.old }
     ensures known { result.status ≤ 5 }
+
+    // With status 0 nothing is said, and with each other status its message, where the faults of the sink for it didn't rise.
+    ensures silent { result.status ≡ 0 → err.new ≡ err.old }
+    ensures refusal_told { result.status ≡ 1 → IfSome (S.left src.old) (λ bytes. (why : AnyRefusal)
+        → IsVerdict (map string_bytes words.now) bytes (Refused why)
+        → Tells (E.faults err.old) (E.faults err.new) (E.taken err.old) (E.taken err.new) (refusal_message why)) }
+    ensures usage_told { result.status ≡ 2 →
+        Tells (E.faults err.old) (E.faults err.new) (E.taken err.old) (E.taken err.new) usage_message }
+    ensures read_fault_told { result.status ≡ 3 →
+        Tells (E.faults err.old) (E.faults err.new) (E.taken err.old) (E.taken err.new) read_fault_message }
+    ensures write_fault_told { result.status ≡ 4 →
+        Tells (E.faults err.old) (E.faults err.new) (E.taken err.old) (E.taken err.new) write_fault_message }
+    ensures no_memory_told { result.status ≡ 5 →
+        Tells (E.faults err.old) (E.faults err.new) (E.taken err.old) (E.taken err.new) no_memory_message }
 
     // Where no device failed, an input gets its text or its refusal, unless memory runs out.
     ensures complete { (bytes text : List ℕ) → S.left src.old ≡ Some bytes → IsVerdict (map string_bytes words.now) bytes (Text text)
@@ -97,7 +112,11 @@ pub fn top<H: Threads + Sync, S: Source, O: Sink, E: Sink>(
 {
     let status = match run(alloc, words, src, out) {
         Ok(()) => 0,
-        Err(stop) => stop.status(),
+        Err(stop) => {
+            // A fault of `err` changes no status.
+            let _ = tell(err, stop);
+            stop.status()
+        }
     };
     Ended {
         status,

@@ -13,13 +13,23 @@ struct Faults<'a> {
     piece: usize,
     reads: &'a [u64],
     writes: &'a [u64],
+    says: &'a [u64],
 }
 
 const NO_FAULTS: Faults<'static> = Faults {
     piece: 7,
     reads: &[],
     writes: &[],
+    says: &[],
 };
+
+/// What a run answered, and what its two sinks took.
+#[derive(Drop)]
+struct Outcome {
+    status: u8,
+    written: Vec<u8>,
+    said: Vec<u8>,
+}
 
 fn words_of(alloc: Global, line: &str) -> Result<Vec<String>, Fail> {
     let mut words = Vec::new(alloc);
@@ -29,28 +39,36 @@ fn words_of(alloc: Global, line: &str) -> Result<Vec<String>, Fail> {
     Ok(words)
 }
 
-/// Runs the program on the words of a line, and answers its status and what it wrote.
+/// Runs the program on the words of a line.
 fn ran<R: Threads + Sync + Abort + AllocGlobal>(
     rt: &R,
     line: &str,
     input: &[u8],
     faults: Faults,
-) -> Result<(u8, Vec<u8>), Fail> {
+) -> Result<Outcome, Fail> {
     let alloc = rt.alloc();
     let piece = faults.piece.max(1);
     let words = words_of(alloc, line)?;
     let mut src = MemSource::new(input.to_vec(alloc)?, piece, faults.reads.to_vec(alloc)?);
     let mut out = MemSink::new(alloc, 1000, piece, faults.writes.to_vec(alloc)?)?;
-    let mut err = MemSink::new(alloc, 1000, piece, Vec::new(alloc))?;
+    let mut err = MemSink::new(alloc, 1000, piece, faults.says.to_vec(alloc)?)?;
     let ended = top(rt, alloc, &words, &mut src, &mut out, &mut err);
     assert_eq!(rt; ended.book, Book::None);
-    assert!(rt; err.taken().is_empty());
-    Ok((ended.status, out.taken().to_vec(alloc)?))
+    Ok(Outcome {
+        status: ended.status,
+        written: out.taken().to_vec(alloc)?,
+        said: err.taken().to_vec(alloc)?,
+    })
 }
 
 const SAMPLE: &[u8] = b"ACGT\nCGTA\n";
 
 const SAMPLE_TEXT: &[u8] = b"ACG\t1\nCGT\t2\nGTA\t1\n";
+
+const USAGE: &str = "usage: bcl count K [--ranks N] [--min M] [--promise own|any] [--hist]
+       bcl contigs K [--ranks N] [--promise own|any]
+       bcl drill NUMBER LINES K [--ranks N] [--promise own|any]
+";
 
 #[test]
 fn kmers_are_counted_in_byte_order(rt: HostRuntime) -> Result<(), Fail> {
@@ -63,9 +81,10 @@ fn kmers_are_counted_in_byte_order(rt: HostRuntime) -> Result<(), Fail> {
         ("count 31", SAMPLE, b""),
     ];
     for (line, input, text) in cases {
-        let (status, written) = ran(&rt, line, input, NO_FAULTS)?;
-        assert_eq!(rt; status, 0, "{line} of {input:?}");
-        assert_eq!(rt; written.as_slice(), text, "{line} of {input:?}");
+        let ran = ran(&rt, line, input, NO_FAULTS)?;
+        assert_eq!(rt; ran.status, 0, "{line} of {input:?}");
+        assert_eq!(rt; ran.written.as_slice(), text, "{line} of {input:?}");
+        assert!(rt; ran.said.is_empty(), "{line} of {input:?}");
     }
     Ok(())
 }
@@ -73,30 +92,32 @@ fn kmers_are_counted_in_byte_order(rt: HostRuntime) -> Result<(), Fail> {
 #[test]
 fn pieces_of_any_size_give_one_text(rt: HostRuntime) -> Result<(), Fail> {
     for piece in 1..30 {
-        let (status, written) = ran(&rt, "count 3", SAMPLE, Faults { piece, ..NO_FAULTS })?;
-        assert_eq!(rt; status, 0, "piece {piece}");
-        assert_eq!(rt; written.as_slice(), SAMPLE_TEXT, "piece {piece}");
+        let ran = ran(&rt, "count 3", SAMPLE, Faults { piece, ..NO_FAULTS })?;
+        assert_eq!(rt; ran.status, 0, "piece {piece}");
+        assert_eq!(rt; ran.written.as_slice(), SAMPLE_TEXT, "piece {piece}");
     }
     Ok(())
 }
 
 #[test]
-fn bad_input_is_refused_unwritten(rt: HostRuntime) -> Result<(), Fail> {
-    for input in [
-        b"ACGX\n".as_slice(),
-        b"\n\nACGN\n",
-        b"ACG\nacg\n",
-        b"ACG\0\n",
-    ] {
-        let (status, written) = ran(&rt, "count 3", input, NO_FAULTS)?;
-        assert_eq!(rt; status, 1, "{input:?}");
-        assert!(rt; written.is_empty(), "{input:?}");
+fn bad_input_is_refused_unwritten_and_its_line_named(rt: HostRuntime) -> Result<(), Fail> {
+    let cases = [
+        (b"ACGX\n".as_slice(), b"line 1: bad letter\n".as_slice()),
+        (b"\n\nACGN\n", b"line 3: bad letter\n"),
+        (b"ACG\nacg\n", b"line 2: bad letter\n"),
+        (b"ACG\0\n", b"line 1: bad letter\n"),
+    ];
+    for (input, message) in cases {
+        let ran = ran(&rt, "count 3", input, NO_FAULTS)?;
+        assert_eq!(rt; ran.status, 1, "{input:?}");
+        assert!(rt; ran.written.is_empty(), "{input:?}");
+        assert_eq!(rt; ran.said.as_slice(), message, "{input:?}");
     }
     Ok(())
 }
 
 #[test]
-fn other_words_are_usage(rt: HostRuntime) -> Result<(), Fail> {
+fn other_words_get_the_usage(rt: HostRuntime) -> Result<(), Fail> {
     let lines = [
         "",
         "count",
@@ -115,40 +136,79 @@ fn other_words_are_usage(rt: HostRuntime) -> Result<(), Fail> {
         "count 99999999999999999999999999",
     ];
     for line in lines {
-        let (status, written) = ran(&rt, line, SAMPLE, NO_FAULTS)?;
-        assert_eq!(rt; status, 2, "{line}");
-        assert!(rt; written.is_empty(), "{line}");
+        let ran = ran(&rt, line, SAMPLE, NO_FAULTS)?;
+        assert_eq!(rt; ran.status, 2, "{line}");
+        assert!(rt; ran.written.is_empty(), "{line}");
+        assert_eq!(rt; ran.said.as_slice(), USAGE.as_bytes(), "{line}");
     }
     Ok(())
 }
 
 #[test]
-fn a_read_fault_writes_nothing(rt: HostRuntime) -> Result<(), Fail> {
+fn a_read_fault_is_told_and_writes_nothing(rt: HostRuntime) -> Result<(), Fail> {
     for call in 1..4 {
         let faults = Faults {
             piece: 4,
             reads: &[call],
-            writes: &[],
+            ..NO_FAULTS
         };
-        let (status, written) = ran(&rt, "count 3", SAMPLE, faults)?;
-        assert_eq!(rt; status, 3, "call {call}");
-        assert!(rt; written.is_empty(), "call {call}");
+        let ran = ran(&rt, "count 3", SAMPLE, faults)?;
+        assert_eq!(rt; ran.status, 3, "call {call}");
+        assert!(rt; ran.written.is_empty(), "call {call}");
+        assert_eq!(rt;
+            ran.said.as_slice(),
+            b"read fault\n".as_slice(),
+            "call {call}"
+        );
     }
     Ok(())
 }
 
 #[test]
-fn a_write_fault_leaves_a_front(rt: HostRuntime) -> Result<(), Fail> {
+fn a_write_fault_is_told_and_leaves_a_front(rt: HostRuntime) -> Result<(), Fail> {
     for call in 1..5u64 {
         let faults = Faults {
             piece: 4,
-            reads: &[],
             writes: &[call],
+            ..NO_FAULTS
         };
-        let (status, written) = ran(&rt, "count 3", SAMPLE, faults)?;
-        assert_eq!(rt; status, 4, "call {call}");
-        assert!(rt; SAMPLE_TEXT.starts_with(written.as_slice()), "call {call}");
-        assert_eq!(rt; written.len() as u64, call * 4 - 4, "call {call}");
+        let ran = ran(&rt, "count 3", SAMPLE, faults)?;
+        assert_eq!(rt; ran.status, 4, "call {call}");
+        assert!(rt;
+            SAMPLE_TEXT.starts_with(ran.written.as_slice()),
+            "call {call}"
+        );
+        assert_eq!(rt; ran.written.len() as u64, call * 4 - 4, "call {call}");
+        assert_eq!(rt;
+            ran.said.as_slice(),
+            b"write fault\n".as_slice(),
+            "call {call}"
+        );
+    }
+    Ok(())
+}
+
+#[test]
+fn a_fault_of_err_changes_no_status(rt: HostRuntime) -> Result<(), Fail> {
+    let none: &[u64] = &[];
+    let first: &[u64] = &[1];
+    let cases = [
+        ("count 3", SAMPLE, none, none, 0),
+        ("count 3", b"ACGX\n".as_slice(), none, none, 1),
+        ("count", SAMPLE, none, none, 2),
+        ("count 3", SAMPLE, first, none, 3),
+        ("count 3", SAMPLE, none, first, 4),
+    ];
+    for (line, input, reads, writes, status) in cases {
+        let faults = Faults {
+            reads,
+            writes,
+            says: first,
+            ..NO_FAULTS
+        };
+        let ran = ran(&rt, line, input, faults)?;
+        assert_eq!(rt; ran.status, status, "status {status}");
+        assert!(rt; ran.said.is_empty(), "status {status}");
     }
     Ok(())
 }

@@ -5,3 +5,4 @@ pub mod Runs
 pub mod Cuts
 pub mod BadLetters
 pub mod Rolling
+pub mod GoodNodes

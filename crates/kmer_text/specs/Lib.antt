@@ -2,3 +2,4 @@ pub mod Lines
 pub mod Letters
 pub mod Windows
 pub mod Kmers
+pub mod Nodes

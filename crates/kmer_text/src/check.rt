@@ -19,13 +19,13 @@ pub enum LetterFault {
     TooManyWindows,
 }
 
-fn is_letter(byte: u8) -> bool
+pub(crate) fn is_letter(byte: u8) -> bool
     ensures { result ≡ is_letter byte }
 {
     matches!(byte, b'A' | b'C' | b'G' | b'T')
 }
 
-fn are_letters(line: &[u8]) -> bool
+pub(crate) fn are_letters(line: &[u8]) -> bool
     ensures { result ≡ are_letters line.now }
 {
     line.iter().all(|byte| is_letter(*byte))

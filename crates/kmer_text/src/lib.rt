@@ -7,6 +7,7 @@
 //! - `kmer`: a word of K letters as a number.
 //! - `windows`: the k-mers of a line, one after another.
 //! - `check`: whether lines have letters alone, and how many windows there are.
+//! - `node`: lines of a key and its extensions.
 //! - `fault`: what is wrong with a line.
 //! - `order`: that the words of K letters, as the definitions list them, are all of them in byte order.
 #![tactic(auto)]
@@ -15,6 +16,7 @@ mod check;
 mod fault;
 mod kmer;
 mod lines;
+mod node;
 mod order;
 #[cfg(test)]
 mod tests;
@@ -24,5 +26,6 @@ pub use check::{LetterFault, MAX_WINDOWS, check_letters};
 pub use fault::{InputFault, Kind};
 pub use kmer::{Kmer, MAX_K, window};
 pub use lines::{CutFault, Lines, MAX_LINES};
+pub use node::{Node, check_nodes, node_of};
 pub use order::words_rise;
 pub use windows::Windows;

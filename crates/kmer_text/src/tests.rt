@@ -1,6 +1,9 @@
-//! Worked examples of lines, windows and packed words.
+//! Worked examples of lines, windows, packed words and nodes.
 
-use crate::{CutFault, InputFault, Kind, Kmer, LetterFault, Lines, Windows, check_letters, window};
+use crate::{
+    CutFault, InputFault, Kind, Kmer, LetterFault, Lines, Windows, check_letters, check_nodes,
+    node_of, window,
+};
 use std::alloc::Global;
 use std::test::Fail;
 
@@ -77,6 +80,45 @@ fn the_first_bad_line_is_named(rt: HostRuntime) -> Result<(), Fail> {
             Err(bad),
             "in {text:?}"
         );
+    }
+    Ok(())
+}
+
+#[test]
+fn nodes_are_read_line_by_line(rt: HostRuntime) -> Result<(), Fail> {
+    let alloc = rt.alloc();
+    let lines = cut(alloc, b"ACG\tFT\n\nCGT\tAF\r\n")??;
+    assert_eq!(rt; check_nodes(&lines, 3), Ok(()));
+    if check_nodes(&lines, 3).is_ok() && lines.count() == 3 {
+        let (key, node) = node_of(&lines, 0, 3).ok_or("the first line is a node")?;
+        assert_eq!(rt;
+            (key.bits, node.line, node.back, node.forward),
+            (6, 1, 4, 3)
+        );
+        assert_eq!(rt; node_of(&lines, 1, 3), None);
+        let (key, node) = node_of(&lines, 2, 3).ok_or("the last line is a node")?;
+        assert_eq!(rt;
+            (key.bits, node.line, node.back, node.forward),
+            (27, 3, 0, 4)
+        );
+    }
+    Ok(())
+}
+
+#[test]
+fn a_bad_node_is_named_by_its_first_fault(rt: HostRuntime) -> Result<(), Fail> {
+    let cases = [
+        (b"ACG\tF\n".as_slice(), 1, Kind::Length),
+        (b"\nACGT\tFT\n", 2, Kind::Length),
+        (b"ACG\tFT\nACX\tFT\n", 2, Kind::Letter),
+        (b"ACX FT\n", 1, Kind::Letter),
+        (b"ACG FX\n", 1, Kind::Tab),
+        (b"ACG\tXT\n", 1, Kind::Extension),
+        (b"ACG\tFf\nACG\n", 1, Kind::Extension),
+    ];
+    for (text, line, kind) in cases {
+        let checked = check_nodes(&cut(rt.alloc(), text)??, 3);
+        assert_eq!(rt; checked, Err(InputFault { line, kind }), "in {text:?}");
     }
     Ok(())
 }

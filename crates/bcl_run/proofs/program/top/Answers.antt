@@ -1,6 +1,8 @@
 use Rattle.std.proofs.Common.{◌≡◌, ◌⊎◌, map, string_bytes, sym, ◌∙◌, subst, ℕ}
 use Rattle.bcl_run.specs.Owed.{devices}
 use Rattle.bcl_run.proofs.Verdicts.{status_refused, completes, refuses_it, never_text}
+use Rattle.bcl_run.specs.Message.{message_of}
+use Rattle.bcl_run.proofs.Told.{tells, refusal_told}
 use Rattle.bcl_run.proofs.program.top.Goals as goal
 
 pub returns-in-Ok-clause-refuses : goal.returns-in-Ok-clause-refuses
@@ -32,3 +34,15 @@ returns-in-Err-clause-refuses g c bytes why told verdict no_fault =
     let d = devices S.left S.faults O.taken O.faults c.args.src.now c.run.new.src c.args.out.now c.run.new.out in
     let P : ℕ → Type 0 = λ status. (status ≡ 1) ⊎ (status ≡ 5) in
     subst P (sym c.status-status.ensures) (refuses_it (map string_bytes c.args.words.now) d bytes told no_fault c.in-Err.stop why c.in-Err.ensures.owed verdict)
+
+pub returns-in-Err-clause-refusal_told : goal.returns-in-Err-clause-refusal_told
+returns-in-Err-clause-refusal_told g c is =
+    let S = g.S.Source in
+    let O = g.O.Sink in
+    let E = g.E.Sink in
+    let err = c.args.err.now in
+    let err' = c.tell.new.err in
+    let stop = c.in-Err.stop in
+    let d = devices S.left S.faults O.taken O.faults c.args.src.now c.run.new.src c.args.out.now c.run.new.out in
+    let said = tells (E.faults err) (E.faults err') (E.taken err) (E.taken err') c.tell.result (message_of stop) c.tell.ensures.message c.tell.ensures.failed in
+    refusal_told (E.faults err) (E.faults err') (E.taken err) (E.taken err') (map string_bytes c.args.words.now) d stop c.in-Err.ensures.owed (sym c.status-status.ensures ∙ is) said
