@@ -1,7 +1,7 @@
 //! The program `bcl` over the words of its command line and the standard streams.
 #![tactic(auto)]
 
-use bcl_io::{StdSink, StdSource};
+use bcl_io::{StdSink, StdSource, write_all};
 use bcl_run::top;
 use std::alloc::Global;
 use std::io::ErrorKind;
@@ -23,15 +23,18 @@ fn words_of(rt: &(impl Env + AllocGlobal), alloc: Global) -> io::Result<Vec<Stri
 
 fn main(rt: HostRuntime) -> ExitCode {
     let alloc = rt.alloc();
-    let words = match words_of(&rt, alloc) {
-        Ok(words) => words,
-        Err(error) if error.kind() == ErrorKind::OutOfMemory => return ExitCode::from(NO_MEMORY),
-        // Words that are no text ask for nothing.
-        Err(_) => Vec::new(alloc),
-    };
     let mut src = StdSource::new(rt.stdin());
     let mut out = StdSink::new(rt.stdout());
     let mut err = StdSink::new(rt.stderr());
+    let words = match words_of(&rt, alloc) {
+        Ok(words) => words,
+        Err(error) if error.kind() == ErrorKind::OutOfMemory => {
+            let _ = write_all(&mut err, b"out of memory\n");
+            return ExitCode::from(NO_MEMORY);
+        }
+        // Words that are no text ask for nothing.
+        Err(_) => Vec::new(alloc),
+    };
     let ended = top(&rt, alloc, &words, &mut src, &mut out, &mut err);
     ExitCode::from(ended.status)
 }
