@@ -2,17 +2,19 @@
 -- A count is raised by how often a number stands in a list.
 use Rattle.std.proofs.Common.{◌≡◌, ◌∙◌, ◌≢◌, ℕ, zero, suc, ◌+◌, ◌<◌, ◌≤◌, List, [], ◌∷◌, ◌++◌, length, map, take, get_or, cond, eqb, Option, None, Some, unwrap_or, BTreeMap, arith, sym, ap, refl}
 use Rattle.std.specs.Ordering.{nat_cmp}
-use Rattle.std.specs.BTreeMap.{is_at, IsEmpty}
+use Rattle.std.specs.BTreeMap.{get, is_at, IsEmpty}
 use Rattle.std.specs.Map.{lookup}
 use Rattle.std.specs.List.{slice_get}
 use Rattle.std.proofs.lemmas.Option.{get_or_from_slice_get}
 use Rattle.std.proofs.lemmas.List.Folds.{length-flat_map-take}
 use Rattle.std.proofs.lemmas.Bool.{ne_eqb, eq-eqb, cond-false, cond-true}
-use Rattle.std.proofs.lemmas.List.{length-map}
-use Rattle.std.proofs.lemmas.List.Sums.{sum_by-cons, sum_by-append, count_by-le-length}
+use Rattle.std.proofs.lemmas.List.{length-map, take_more}
+use Rattle.std.proofs.lemmas.List.Sorted.{sum_by-IsPermutation}
+use Rattle.std.specs.List.Sorted.{IsPermutation}
+use Rattle.std.proofs.lemmas.List.Sums.{sum_by-cons, sum_by-append, sum_by-take-le, count_by-le-length}
 use Rattle.kmer_text.specs.Kmers.{number_of}
 use Rattle.kmer_text.specs.Windows.{windows, all_windows}
-use Rattle.bcl_run.specs.Tally.{raised, times, Adds, Counts}
+use Rattle.bcl_run.specs.Tally.{raised, times, held, Adds, Counts}
 
 pub raised-zero : (o : Option ℕ) → raised o 0 ≡ o
 unfolding raised
@@ -39,7 +41,7 @@ times-one q x e = sum_by-cons (λ y. cond (eqb y q) 1 0) x [] ∙ omega (arith, 
 pub times_itself : (x : ℕ) → times x (x ∷ []) ≡ 1
 times_itself x = times-one x x (cond-true (eqb x x) 1 0 (eq-eqb x x refl))
 
-times-append : (q : ℕ) (xs ys : List ℕ) → times q (xs ++ ys) ≡ times q xs + times q ys
+pub times-append : (q : ℕ) (xs ys : List ℕ) → times q (xs ++ ys) ≡ times q xs + times q ys
 times-append q xs ys = sum_by-append (λ y. cond (eqb y q) 1 0) xs ys
 
 -- a map at one key, which went up by one there and at no other
@@ -56,10 +58,31 @@ times-cons q x xs = times-append q (x ∷ []) xs
 pub times-le-length : (q : ℕ) (ws : List (List ℕ)) → times q (map number_of ws) ≤ length ws
 times-le-length q ws = omega (arith, count_by-le-length (λ y. eqb y q) (map number_of ws), length-map ws number_of)
 
--- the counts of one list, and then of another
-pub Counts-append : (xs ys : List ℕ) (old new : BTreeMap ℕ ℕ) → Counts xs old → Adds ys old new → Counts (xs ++ ys) new
-Counts-append xs ys old new c a q =
-    a q ∙ (ap (λ o. raised o (times q ys)) (c q) ∙ (raised-raised None (times q xs) (times q ys) ∙ ap (raised None) (sym (times-append q xs ys))))
+-- the numbers before place i and at it
+pub times_more : (q x : ℕ) (xs : List ℕ) (i : ℕ) → i < length xs → x ≡ get_or xs i x → times q (take (i + 1) xs) ≡ times q (take i xs) + times q (x ∷ [])
+times_more q x xs i h at =
+    ap (times q) (take_more xs i x h ∙ ap (λ y. take i xs ++ y ∷ []) (sym at)) ∙ times-append q (take i xs) (x ∷ [])
+
+pub times-take-le : (q : ℕ) (xs : List ℕ) (i : ℕ) → times q (take i xs) ≤ times q xs
+times-take-le q xs i = sum_by-take-le (λ y. cond (eqb y q) 1 0) xs i
+
+pub times-IsPermutation : (q : ℕ) (xs ys : List ℕ) → IsPermutation xs ys → times q ys ≡ times q xs
+times-IsPermutation q xs ys p = sum_by-IsPermutation (λ y. cond (eqb y q) 1 0) xs ys p
+
+-- one more number waits
+pub held_push : (q x : ℕ) (m : BTreeMap ℕ ℕ) (waiting : List ℕ) → held m (waiting ++ x ∷ []) q ≡ raised (held m waiting q) (times q (x ∷ []))
+held_push q x m waiting =
+    ap (raised (get nat_cmp m q)) (times-append q waiting (x ∷ [])) ∙ sym (raised-raised (get nat_cmp m q) (times q waiting) (times q (x ∷ [])))
+
+-- the map took those that waited
+pub held_settled : (q : ℕ) (old new : BTreeMap ℕ ℕ) (waiting none : List ℕ) → Adds waiting old new → none ≡ [] → held new none q ≡ held old waiting q
+held_settled q old new waiting none adds empty = ap (λ xs. held new xs q) empty ∙ (raised-zero (get nat_cmp new q) ∙ adds q)
+
+-- a count of the numbers of one list, and then of another
+pub raised_append : (q : ℕ) (xs ys : List ℕ) (old new : Option ℕ) → old ≡ raised None (times q xs) → new ≡ raised old (times q ys)
+    → new ≡ raised None (times q (xs ++ ys))
+raised_append q xs ys old new before more =
+    more ∙ (ap (λ o. raised o (times q ys)) before ∙ (raised-raised None (times q xs) (times q ys) ∙ ap (raised None) (sym (times-append q xs ys))))
 
 pub Counts-nil : (m : BTreeMap ℕ ℕ) → IsEmpty m → Counts [] m
 Counts-nil m empty q = ap (lookup (is_at (nat_cmp q))) empty ∙ sym (raised-zero None)
