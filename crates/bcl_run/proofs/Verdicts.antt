@@ -16,13 +16,13 @@ use Rattle.kmer_text.specs.declared.check.LetterFault.TheVariants as letters
 use Rattle.kmer_text.specs.Lines.{lines}
 use Rattle.kmer_text.specs.Letters.{bad_letter}
 use Rattle.kmer_text.specs.Windows.{total}
+use Rattle.kmer_count.specs.Count.{count_text}
 use Rattle.bcl_run.specs.declared.refusal.Refusal.{Refusal}
 use Rattle.bcl_run.specs.declared.refusal.Refusal.TheVariants.{TooManyBytes, TooManyLines, Line, TooManyWindows}
 use Rattle.bcl_run.specs.declared.settings.Settings.{Settings}
 use Rattle.bcl_run.specs.declared.settings.Settings.TheVariants.{Count}
 use Rattle.bcl_run.specs.declared.stop.Stop.{Stop}
 use Rattle.bcl_run.specs.declared.stop.Stop.TheVariants as stops
-use Rattle.bcl_run.specs.Count.{count_text}
 use Rattle.bcl_run.specs.Settings.{Reads}
 use Rattle.bcl_run.specs.Verdict.{Verdict, Usage, Text, Refused, IsVerdict, verdict, counted, unless, refusals}
 use Rattle.bcl_run.specs.Stop.{status_of, stop_of_read, stop_of_cut, stop_of_letters}

@@ -6,12 +6,12 @@ use Rattle.bcl_words.specs.Reasons.{when, first_of}
 use Rattle.kmer_text.specs.Lines.{lines}
 use Rattle.kmer_text.specs.Letters.{bad_letter}
 use Rattle.kmer_text.specs.Windows.{total}
+use Rattle.kmer_count.specs.Count.{count_text}
 use Rattle.bcl_run.specs.declared.refusal.Refusal.{Refusal}
 use Rattle.bcl_run.specs.declared.refusal.Refusal.TheVariants.{TooManyBytes, TooManyLines, Line, TooManyWindows}
 use Rattle.bcl_run.specs.declared.settings.Settings.{Settings}
 use Rattle.bcl_run.specs.declared.settings.Settings.TheVariants.{Count}
 use Rattle.bcl_run.specs.Settings.{Reads}
-use Rattle.bcl_run.specs.Count.{count_text}
 
 pub data Verdict : Type 0 where
   Usage : Verdict

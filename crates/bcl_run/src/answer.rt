@@ -8,7 +8,7 @@ ghost use Rattle.bcl_run.specs.Owed.{Excuses};
 
 use crate::Settings;
 use crate::stop::Stop;
-use crate::text::count_text;
+use kmer_count::count_text;
 use kmer_text::{Lines, check_letters};
 use std::alloc::Global;
 

@@ -10,8 +10,6 @@
 //! - `refusal`: why an input is refused.
 //! - `stop`: why a run ends without its text, and the status that says so.
 //! - `message`: what the program says of a run without a text.
-//! - `tally`: the plain count of k-mers in an ordered map.
-//! - `text`: the rows of a count.
 #![tactic(auto)]
 
 mod answer;
@@ -21,10 +19,8 @@ mod program;
 mod refusal;
 mod settings;
 mod stop;
-mod tally;
 #[cfg(test)]
 mod tests;
-mod text;
 
 pub use answer::MAX_BYTES;
 pub use program::{Book, Ended, top};

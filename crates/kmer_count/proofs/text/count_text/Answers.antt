@@ -3,11 +3,11 @@ use Rattle.std.specs.List.{All, AllByRecursion}
 use Rattle.std.proofs.lemmas.List.Elements.{All-head, All-tail, All-from_recursion}
 use Rattle.kmer_text.specs.Kmers.{number_of, word_of}
 use Rattle.kmer_text.specs.Windows.{all_windows}
-use Rattle.bcl_run.specs.Count.{row}
-use Rattle.bcl_run.specs.Tally.{times}
-use Rattle.bcl_run.proofs.Entries.{keys_in, counted_in}
-use Rattle.bcl_run.proofs.Rows.{rows, rows_with, rows_without, text_is, entries_are}
-use Rattle.bcl_run.proofs.text.count_text.Goals as goal
+use Rattle.kmer_count.specs.Count.{row}
+use Rattle.kmer_count.specs.Tally.{times}
+use Rattle.kmer_count.proofs.Entries.{keys_in, counted_in}
+use Rattle.kmer_count.proofs.Rows.{rows, rows_with, rows_without, text_is, entries_are}
+use Rattle.kmer_count.proofs.text.count_text.Goals as goal
 
 pub loop-kmer-init : goal.loop-kmer-init
 loop-kmer-init c =

@@ -5,8 +5,8 @@ use Rattle.std.proofs.lemmas.Grind.{common_steps}
 use Rattle.std.proofs.lemmas.Bool.{cases_eq, false_from_ne_true}
 use Rattle.std.proofs.lemmas.Map.Lookups.{exact_unsigned}
 use Rattle.std.proofs.lemmas.Map.Views.{tells_apart}
-use Rattle.bcl_run.proofs.Raised.{bumped_same, bumped_other}
-use Rattle.bcl_run.proofs.tally.bump.Goals as goal
+use Rattle.kmer_count.proofs.Raised.{bumped_same, bumped_other}
+use Rattle.kmer_count.proofs.tally.bump.Goals as goal
 
 pub returns : goal.returns
 returns c q =

@@ -4,7 +4,7 @@ ghost use Rattle.std.specs.Prelude.{◌≡◌, ◌^◌, ◌<◌, ◌≤◌, ◌+
 ghost use Rattle.kmer_text.specs.Kmers.{IsKmerLength, word_of};
 ghost use Rattle.kmer_text.specs.Letters.{are_letters};
 ghost use Rattle.kmer_text.specs.Windows.{total};
-ghost use Rattle.bcl_run.specs.Count.{row, count_text};
+ghost use Rattle.kmer_count.specs.Count.{row, count_text};
 
 use crate::tally::tally_of;
 use bcl_words::NoMemory;
@@ -29,12 +29,7 @@ fn push_row(text: &mut Vec<u8>, kmer: Kmer, n: u64, k: u32) -> Result<(), NoMemo
 }
 
 /// What a count of the lines prints: a row for each k-mer that occurs at least `least` times, in byte order.
-pub(crate) fn count_text(
-    alloc: Global,
-    lines: &Lines,
-    k: u32,
-    least: u64,
-) -> Result<Vec<u8>, NoMemory>
+pub fn count_text(alloc: Global, lines: &Lines, k: u32, least: u64) -> Result<Vec<u8>, NoMemory>
     requires k { IsKmerLength k }
     requires least { 1 ≤ least }
     requires letters { All (λ line. IsTrue (are_letters line)) lines.now }

@@ -1,8 +1,8 @@
 use Rattle.std.proofs.Common.{◌≡◌, ℕ, None, map, take}
 use Rattle.kmer_text.specs.Kmers.{number_of}
 use Rattle.kmer_text.specs.Windows.{all_windows}
-use Rattle.bcl_run.specs.Tally.{raised, times, held}
-use Rattle.bcl_run.proofs.tally.tally_of.Given as goal
+use Rattle.kmer_count.specs.Tally.{raised, times, held}
+use Rattle.kmer_count.proofs.tally.tally_of.Given as goal
 
 -- the lines so far are counted, or wait
 abbrev pub invariant-loop-i : goal.invariant-loop-i

@@ -14,7 +14,7 @@ use Rattle.std.specs.List.Sorted.{IsPermutation}
 use Rattle.std.proofs.lemmas.List.Sums.{sum_by-cons, sum_by-append, sum_by-take-le, count_by-le-length}
 use Rattle.kmer_text.specs.Kmers.{number_of}
 use Rattle.kmer_text.specs.Windows.{windows, all_windows}
-use Rattle.bcl_run.specs.Tally.{raised, times, held, Adds, Counts}
+use Rattle.kmer_count.specs.Tally.{raised, times, held, Adds, Counts}
 
 pub raised-zero : (o : Option ℕ) → raised o 0 ≡ o
 unfolding raised

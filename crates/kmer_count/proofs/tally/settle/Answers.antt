@@ -2,9 +2,9 @@ use Rattle.std.proofs.Common.{◌≡◌, ◌∙◌, ◌+◌, [], ◌∷◌, take
 use Rattle.std.specs.Ordering.{nat_cmp}
 use Rattle.std.specs.BTreeMap.{get}
 use Rattle.std.proofs.lemmas.List.{take_all}
-use Rattle.bcl_run.specs.Tally.{raised, times}
-use Rattle.bcl_run.proofs.Raised.{raised-raised, raised-zero, unwrap_or-raised, times_itself, times_more, times-take-le, times-IsPermutation}
-use Rattle.bcl_run.proofs.tally.settle.Goals as goal
+use Rattle.kmer_count.specs.Tally.{raised, times}
+use Rattle.kmer_count.proofs.Raised.{raised-raised, raised-zero, unwrap_or-raised, times_itself, times_more, times-take-le, times-IsPermutation}
+use Rattle.kmer_count.proofs.tally.settle.Goals as goal
 
 pub loop-kmer-init : goal.loop-kmer-init
 loop-kmer-init c q = sym (raised-zero (get nat_cmp c.args.counts.now q))

@@ -15,8 +15,8 @@ use Rattle.std.proofs.lemmas.Map.Keys.{sorted_tail, IsDistinct-from_sorted}
 use Rattle.std.proofs.lemmas.Map.Lookups.{exact_unsigned}
 use Rattle.std.proofs.lemmas.Map.Views.{tells_apart}
 use Rattle.std.proofs.lemmas.Option.{none-some}
-use Rattle.bcl_run.specs.Tally.{raised}
-use Rattle.bcl_run.proofs.Raised.{raised-zero, raised-suc}
+use Rattle.kmer_count.specs.Tally.{raised}
+use Rattle.kmer_count.proofs.Raised.{raised-zero, raised-suc}
 
 abbrev pub found : List (ℕ × ℕ) → ℕ → Option ℕ
 found es q = lookup (is_at (nat_cmp q)) es

@@ -1,8 +1,8 @@
 use Rattle.std.proofs.Common.{◌≡◌, ℕ, take}
 use Rattle.std.specs.Ordering.{nat_cmp}
 use Rattle.std.specs.BTreeMap.{get}
-use Rattle.bcl_run.specs.Tally.{raised, times}
-use Rattle.bcl_run.proofs.tally.settle.Given as goal
+use Rattle.kmer_count.specs.Tally.{raised, times}
+use Rattle.kmer_count.proofs.tally.settle.Given as goal
 
 -- the numbers so far are counted
 abbrev pub invariant-loop-kmer : goal.invariant-loop-kmer

@@ -1,8 +1,8 @@
 use Rattle.std.proofs.Common.{◌≡◌, ℕ, map}
 use Rattle.kmer_text.specs.Kmers.{number_of}
 use Rattle.kmer_text.specs.Windows.{windows}
-use Rattle.bcl_run.specs.Tally.{raised, times, held}
-use Rattle.bcl_run.proofs.tally.count_line.Given as goal
+use Rattle.kmer_count.specs.Tally.{raised, times, held}
+use Rattle.kmer_count.proofs.tally.count_line.Given as goal
 
 -- the counts so far, raised by what is left, are those at the start, raised by all
 abbrev pub invariant-loop-kmer : goal.invariant-loop-kmer

@@ -8,10 +8,10 @@ use Rattle.kmer_text.specs.Kmers.{number_of, word_of}
 use Rattle.kmer_text.specs.Letters.{are_letters}
 use Rattle.kmer_text.specs.Windows.{occurs, all_windows}
 use Rattle.kmer_text.proofs.AllWords.{all_words_are}
-use Rattle.bcl_run.specs.Count.{row, count_text}
-use Rattle.bcl_run.specs.Tally.{Counts, times}
-use Rattle.bcl_run.proofs.Occurs.{occurs_is, times_past}
-use Rattle.bcl_run.proofs.Entries.{entries_in, counted_in}
+use Rattle.kmer_count.specs.Count.{row, count_text}
+use Rattle.kmer_count.specs.Tally.{Counts, times}
+use Rattle.kmer_count.proofs.Occurs.{occurs_is, times_past}
+use Rattle.kmer_count.proofs.Entries.{entries_in, counted_in}
 
 -- the rows of the entries that are counted so often
 abbrev pub rows : ℕ → ℕ → List (ℕ × ℕ) → List ℕ

@@ -3,9 +3,9 @@ use Rattle.std.specs.Ordering.{nat_cmp}
 use Rattle.std.specs.BTreeMap.{get}
 use Rattle.kmer_text.specs.Kmers.{number_of}
 use Rattle.kmer_text.specs.Windows.{windows}
-use Rattle.bcl_run.specs.Tally.{times, raised, held}
-use Rattle.bcl_run.proofs.Raised.{raised-raised, raised-zero, unwrap_or-raised, times-cons, times-append, times-le-length, held_push, held_settled}
-use Rattle.bcl_run.proofs.tally.count_line.Goals as goal
+use Rattle.kmer_count.specs.Tally.{times, raised, held}
+use Rattle.kmer_count.proofs.Raised.{raised-raised, raised-zero, unwrap_or-raised, times-cons, times-append, times-le-length, held_push, held_settled}
+use Rattle.kmer_count.proofs.tally.count_line.Goals as goal
 
 -- the first of those that are left waits now
 next_waits : (q x : ℕ) (m : BTreeMap ℕ ℕ) (waiting left rest : List ℕ) → left ≡ x ∷ rest

@@ -9,7 +9,7 @@ use Rattle.std.proofs.lemmas.Slice.Eq.{bytes_eq-Decides}
 use Rattle.kmer_text.specs.Kmers.{number_of, word_of}
 use Rattle.kmer_text.specs.Letters.{is_letter, are_letters}
 use Rattle.kmer_text.specs.Windows.{windows, all_windows, occurs}
-use Rattle.bcl_run.specs.Tally.{times}
+use Rattle.kmer_count.specs.Tally.{times}
 use Rattle.kmer_text.proofs.Numbers.{number_of-lt, word_of-number_of, number_of-word_of}
 use Rattle.kmer_text.proofs.Runs.{windows_first, windows_none}
 

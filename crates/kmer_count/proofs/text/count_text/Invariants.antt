@@ -1,8 +1,8 @@
 use Rattle.std.proofs.Common.{◌≡◌, ◌++◌, ◌<◌, ◌^◌}
 use Rattle.std.specs.List.{All}
-use Rattle.bcl_run.specs.Count.{count_text}
-use Rattle.bcl_run.proofs.Rows.{rows}
-use Rattle.bcl_run.proofs.text.count_text.Given as goal
+use Rattle.kmer_count.specs.Count.{count_text}
+use Rattle.kmer_count.proofs.Rows.{rows}
+use Rattle.kmer_count.proofs.text.count_text.Given as goal
 
 -- the rows so far, and those that are left
 abbrev pub invariant-loop-kmer : goal.invariant-loop-kmer

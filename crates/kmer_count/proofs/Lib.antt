@@ -1,0 +1,4 @@
+pub mod Raised
+pub mod Occurs
+pub mod Entries
+pub mod Rows
