@@ -1,8 +1,9 @@
 -- When an input is refused, and when it is answered.
-use Rattle.std.proofs.Common.{◌≡◌, ◌∙◌, ℕ, ◌^◌, ◌<◌, ◌≤◌, ltb, List, [], ◌∷◌, length, Option, None, Some, IfSome, Err, ◌⊎◌, inl, inr, take, subst, arith, sym, ap, refl, length-append}
+use Rattle.std.proofs.Common.{◌≡◌, ◌∙◌, ℕ, ◌+◌, ◌^◌, ◌<◌, ◌≤◌, ltb, List, [], ◌∷◌, length, Option, None, Some, IfSome, Err, ◌⊎◌, inl, inr, take, subst, arith, sym, ap, refl, length-append}
 use Rattle.std.specs.Option.{option_map, option_or}
 use Rattle.std.specs.Io.KnownBytes.{Consumes, Appends}
 use Rattle.std.proofs.lemmas.Bool.{lt-ltb, le-ltb}
+use Rattle.std.proofs.lemmas.Option.{none-some}
 use Rattle.bcl_words.specs.Reasons.{when, first_of}
 use Rattle.bcl_words.proofs.ReasonsLemmas.{first_of-applies, first_of-passes}
 use Rattle.bcl_io.specs.declared.fault.ReadFault.{ReadFault}
@@ -16,16 +17,21 @@ use Rattle.kmer_text.specs.declared.check.LetterFault.TheVariants as letters
 use Rattle.kmer_text.specs.Lines.{lines}
 use Rattle.kmer_text.specs.Letters.{bad_letter}
 use Rattle.kmer_text.specs.Windows.{total}
+use Rattle.kmer_text.specs.Nodes.{bad_node}
+use Rattle.kmer_walk.specs.declared.fault.WalkFault.{WalkFault}
+use Rattle.kmer_walk.specs.declared.fault.WalkFault.TheVariants as walks
+use Rattle.kmer_walk.specs.Keys.{first_conflict}
+use Rattle.kmer_walk.specs.Contigs.{contig_text}
 use Rattle.kmer_count.specs.Count.{count_text}
 use Rattle.bcl_run.specs.declared.refusal.Refusal.{Refusal}
-use Rattle.bcl_run.specs.declared.refusal.Refusal.TheVariants.{TooManyBytes, TooManyLines, Line, TooManyWindows}
+use Rattle.bcl_run.specs.declared.refusal.Refusal.TheVariants.{TooManyBytes, TooManyLines, Line, TooManyWindows, Conflict, TooMuchText}
 use Rattle.bcl_run.specs.declared.settings.Settings.{Settings}
-use Rattle.bcl_run.specs.declared.settings.Settings.TheVariants.{Count}
+use Rattle.bcl_run.specs.declared.settings.Settings.TheVariants.{Count, Contigs}
 use Rattle.bcl_run.specs.declared.stop.Stop.{Stop}
 use Rattle.bcl_run.specs.declared.stop.Stop.TheVariants as stops
 use Rattle.bcl_run.specs.Settings.{Reads}
-use Rattle.bcl_run.specs.Verdict.{Verdict, Usage, Text, Refused, IsVerdict, verdict, counted, unless, refusals}
-use Rattle.bcl_run.specs.Stop.{status_of, stop_of_read, stop_of_cut, stop_of_letters}
+use Rattle.bcl_run.specs.Verdict.{Verdict, Usage, Text, Refused, IsVerdict, verdict, counted, walked, unless, within_limits, count_refusals, conflict_at, contig_refusals}
+use Rattle.bcl_run.specs.Stop.{status_of, stop_of_read, stop_of_cut, stop_of_letters, stop_of_walk}
 use Rattle.bcl_run.specs.Owed.{Excuses, Owed, Devices, TookAll}
 use Rattle.bcl_run.proofs.Reading.{once}
 
@@ -36,7 +42,28 @@ applies n m why rest h = first_of-applies (ltb n m) why rest (lt-ltb n m h)
 passes : (n m : ℕ) (why : Refusal) (rest : List (Option Refusal)) → m ≤ n → first_of (when (ltb n m) why ∷ rest) ≡ first_of rest
 passes n m why rest h = first_of-passes (ltb n m) why rest (le-ltb n m h)
 
-module _ (k : ℕ) (bytes : List ℕ) where
+-- ---- the limits come before the reasons of a mode
+module _ (bytes : List ℕ) (reasons : List (Option Refusal)) where
+  abbrev lines_reasons : List (Option Refusal)
+  lines_reasons = when (ltb (2 ^ 22) (length (lines bytes))) TooManyLines ∷ reasons
+
+  too_long : 2 ^ 26 < length bytes → first_of (within_limits bytes reasons) ≡ Some TooManyBytes
+  too_long long = applies (2 ^ 26) (length bytes) TooManyBytes lines_reasons long
+
+  module _ (short : length bytes ≤ 2 ^ 26) where
+    many_lines : 2 ^ 22 < length (lines bytes) → first_of (within_limits bytes reasons) ≡ Some TooManyLines
+    many_lines many = passes (2 ^ 26) (length bytes) TooManyBytes lines_reasons short ∙ applies (2 ^ 22) (length (lines bytes)) TooManyLines reasons many
+
+    to_mode : length (lines bytes) ≤ 2 ^ 22 → first_of (within_limits bytes reasons) ≡ first_of reasons
+    to_mode few = passes (2 ^ 26) (length bytes) TooManyBytes lines_reasons short ∙ passes (2 ^ 22) (length (lines bytes)) TooManyLines reasons few
+
+    cut_excuse : (text : List ℕ) (fault : CutFault) → (fault ≡ cuts.TooManyLines → 2 ^ 22 < length (lines bytes))
+        → Excuses (unless (first_of (within_limits bytes reasons)) text) (stop_of_cut fault)
+    cut_excuse text cuts.NoMemory many = tt
+    cut_excuse text cuts.TooManyLines many = ap (λ o. unless o text) (many_lines (many refl))
+
+-- ---- the verdict on a count
+module _ (k least : ℕ) (bytes : List ℕ) where
   abbrev ls : List (List ℕ)
   ls = lines bytes
 
@@ -46,53 +73,85 @@ module _ (k : ℕ) (bytes : List ℕ) where
   abbrev letters_reasons : List (Option Refusal)
   letters_reasons = option_map Line (bad_letter ls) ∷ windows_reason
 
-  abbrev lines_reasons : List (Option Refusal)
-  lines_reasons = when (ltb (2 ^ 22) (length ls)) TooManyLines ∷ letters_reasons
+  pub count_cut_excuse : (fault : CutFault) → length bytes ≤ 2 ^ 26 → (fault ≡ cuts.TooManyLines → 2 ^ 22 < length ls) → Excuses (counted k least bytes) (stop_of_cut fault)
+  unfolding count_refusals
+  count_cut_excuse fault short many = cut_excuse bytes letters_reasons short (count_text k least ls) fault many
 
-  too_long : 2 ^ 26 < length bytes → first_of (refusals k bytes) ≡ Some TooManyBytes
-  unfolding refusals
-  too_long long = applies (2 ^ 26) (length bytes) TooManyBytes lines_reasons long
-
-  many_lines : length bytes ≤ 2 ^ 26 → 2 ^ 22 < length ls → first_of (refusals k bytes) ≡ Some TooManyLines
-  unfolding refusals
-  many_lines short many = passes (2 ^ 26) (length bytes) TooManyBytes lines_reasons short ∙ applies (2 ^ 22) (length ls) TooManyLines letters_reasons many
+  count_too_long : 2 ^ 26 < length bytes → counted k least bytes ≡ Refused TooManyBytes
+  unfolding count_refusals
+  count_too_long long = ap (λ o. unless o (count_text k least ls)) (too_long bytes letters_reasons long)
 
   module _ (short : length bytes ≤ 2 ^ 26) (few : length ls ≤ 2 ^ 22) where
-    to_letters : first_of (refusals k bytes) ≡ first_of letters_reasons
-    unfolding refusals
-    to_letters = passes (2 ^ 26) (length bytes) TooManyBytes lines_reasons short ∙ passes (2 ^ 22) (length ls) TooManyLines letters_reasons few
+    to_letters : first_of (count_refusals k bytes) ≡ first_of letters_reasons
+    unfolding count_refusals
+    to_letters = to_mode bytes letters_reasons short few
 
-    bad_line : (fault : InputFault) → bad_letter ls ≡ Some fault → first_of (refusals k bytes) ≡ Some (Line fault)
+    bad_line : (fault : InputFault) → bad_letter ls ≡ Some fault → first_of (count_refusals k bytes) ≡ Some (Line fault)
     bad_line fault bad = to_letters ∙ ap (λ o. option_or (option_map Line o) (first_of windows_reason)) bad
 
-    to_windows : bad_letter ls ≡ None → first_of (refusals k bytes) ≡ first_of windows_reason
+    to_windows : bad_letter ls ≡ None → first_of (count_refusals k bytes) ≡ first_of windows_reason
     to_windows none = to_letters ∙ ap (λ o. option_or (option_map Line o) (first_of windows_reason)) none
 
-    many_windows : bad_letter ls ≡ None → 2 ^ 23 < total k ls → first_of (refusals k bytes) ≡ Some TooManyWindows
-    many_windows none many = to_windows none ∙ applies (2 ^ 23) (total k ls) TooManyWindows [] many
+    pub letters_excuse : (fault : LetterFault) → ((line : InputFault) → fault ≡ letters.Bad line → bad_letter ls ≡ Some line)
+        → (fault ≡ letters.TooManyWindows → (bad_letter ls ≡ None) × (2 ^ 23 < total k ls)) → Excuses (counted k least bytes) (stop_of_letters fault)
+    letters_excuse (letters.Bad line) bad many = ap (λ o. unless o (count_text k least ls)) (bad_line line (bad line refl))
+    letters_excuse letters.TooManyWindows bad many =
+        ap (λ o. unless o (count_text k least ls)) (to_windows (many refl).0 ∙ applies (2 ^ 23) (total k ls) TooManyWindows [] (many refl).1)
 
-    accepted : bad_letter ls ≡ None → total k ls ≤ 2 ^ 23 → first_of (refusals k bytes) ≡ None
-    accepted none small = to_windows none ∙ passes (2 ^ 23) (total k ls) TooManyWindows [] small
+    pub count_answers : bad_letter ls ≡ None → total k ls ≤ 2 ^ 23 → counted k least bytes ≡ Text (count_text k least ls)
+    count_answers none small = ap (λ o. unless o (count_text k least ls)) (to_windows none ∙ passes (2 ^ 23) (total k ls) TooManyWindows [] small)
 
--- ---- the verdict on a count
-pub refuses : (k least : ℕ) (bytes : List ℕ) (why : Refusal) → first_of (refusals k bytes) ≡ Some why → counted k least bytes ≡ Refused why
-refuses k least bytes why e = ap (λ o. unless o (count_text k least (lines bytes))) e
+-- ---- the verdict on contigs
+module _ (k : ℕ) (bytes : List ℕ) where
+  abbrev nodes : List (List ℕ)
+  nodes = lines bytes
 
-pub answers : (k least : ℕ) (bytes : List ℕ) → length bytes ≤ 2 ^ 26 → length (lines bytes) ≤ 2 ^ 22 → bad_letter (lines bytes) ≡ None → total k (lines bytes) ≤ 2 ^ 23
-    → counted k least bytes ≡ Text (count_text k least (lines bytes))
-answers k least bytes short few none small = ap (λ o. unless o (count_text k least (lines bytes))) (accepted k bytes short few none small)
+  abbrev text_reason : List (Option Refusal)
+  text_reason = when (ltb (2 ^ 26) (length (contig_text k nodes))) TooMuchText ∷ []
 
-pub cut_excuses : (k least : ℕ) (bytes : List ℕ) (fault : CutFault) → length bytes ≤ 2 ^ 26 → (fault ≡ cuts.TooManyLines → 2 ^ 22 < length (lines bytes))
-    → Excuses (counted k least bytes) (stop_of_cut fault)
-cut_excuses k least bytes cuts.NoMemory short many = tt
-cut_excuses k least bytes cuts.TooManyLines short many = refuses k least bytes TooManyLines (many_lines k bytes short (many refl))
+  abbrev conflict_reasons : List (Option Refusal)
+  conflict_reasons = option_map conflict_at (first_conflict k nodes) ∷ text_reason
 
-pub letters_excuse : (k least : ℕ) (bytes : List ℕ) (fault : LetterFault) → length bytes ≤ 2 ^ 26 → length (lines bytes) ≤ 2 ^ 22
-    → ((line : InputFault) → fault ≡ letters.Bad line → bad_letter (lines bytes) ≡ Some line)
-    → (fault ≡ letters.TooManyWindows → (bad_letter (lines bytes) ≡ None) × (2 ^ 23 < total k (lines bytes)))
-    → Excuses (counted k least bytes) (stop_of_letters fault)
-letters_excuse k least bytes (letters.Bad line) short few bad many = refuses k least bytes (Line line) (bad_line k bytes short few line (bad line refl))
-letters_excuse k least bytes letters.TooManyWindows short few bad many = refuses k least bytes TooManyWindows (many_windows k bytes short few (many refl).0 (many refl).1)
+  abbrev node_reasons : List (Option Refusal)
+  node_reasons = option_map Line (bad_node k nodes) ∷ conflict_reasons
+
+  pub contig_cut_excuse : (fault : CutFault) → length bytes ≤ 2 ^ 26 → (fault ≡ cuts.TooManyLines → 2 ^ 22 < length nodes) → Excuses (walked k bytes) (stop_of_cut fault)
+  unfolding contig_refusals
+  contig_cut_excuse fault short many = cut_excuse bytes node_reasons short (contig_text k nodes) fault many
+
+  contigs_too_long : 2 ^ 26 < length bytes → walked k bytes ≡ Refused TooManyBytes
+  unfolding contig_refusals
+  contigs_too_long long = ap (λ o. unless o (contig_text k nodes)) (too_long bytes node_reasons long)
+
+  module _ (short : length bytes ≤ 2 ^ 26) (few : length nodes ≤ 2 ^ 22) where
+    to_nodes : first_of (contig_refusals k bytes) ≡ first_of node_reasons
+    unfolding contig_refusals
+    to_nodes = to_mode bytes node_reasons short few
+
+    pub node_excuse : (line : InputFault) → bad_node k nodes ≡ Some line → walked k bytes ≡ Refused (Line line)
+    node_excuse line bad = ap (λ o. unless o (contig_text k nodes)) (to_nodes ∙ ap (λ o. option_or (option_map Line o) (first_of conflict_reasons)) bad)
+
+    module _ (good : bad_node k nodes ≡ None) where
+      to_conflict : first_of (contig_refusals k bytes) ≡ first_of conflict_reasons
+      to_conflict = to_nodes ∙ ap (λ o. option_or (option_map Line o) (first_of conflict_reasons)) good
+
+      to_text : first_conflict k nodes ≡ None → first_of (contig_refusals k bytes) ≡ first_of text_reason
+      to_text none = to_conflict ∙ ap (λ o. option_or (option_map conflict_at o) (first_of text_reason)) none
+
+      pub walk_excuse : (fault : WalkFault) → ((n : ℕ) → fault ≡ walks.Conflict n → option_map (λ place. place + 1) (first_conflict k nodes) ≡ Some n)
+          → (fault ≡ walks.TooLong → (first_conflict k nodes ≡ None) × (2 ^ 26 < length (contig_text k nodes))) → Excuses (walked k bytes) (stop_of_walk fault)
+      walk_excuse walks.NoMemory conflict long = tt
+      walk_excuse (walks.Conflict n) conflict long =
+          ap (λ o. unless o (contig_text k nodes)) (to_conflict ∙ ap (λ o. option_or o (first_of text_reason)) (named (first_conflict k nodes) n (conflict n refl)))
+        where
+          named : (o : Option ℕ) (n : ℕ) → option_map (λ place. place + 1) o ≡ Some n → option_map conflict_at o ≡ Some (Conflict n)
+          named None n e = absurd (none-some n e)
+          named (Some place) n e = let same : place + 1 ≡ n = cc in ap (λ m. Some (Conflict m)) same
+      walk_excuse walks.TooLong conflict long =
+          ap (λ o. unless o (contig_text k nodes)) (to_text (long refl).0 ∙ applies (2 ^ 26) (length (contig_text k nodes)) TooMuchText [] (long refl).1)
+
+      pub contig_answers : first_conflict k nodes ≡ None → length (contig_text k nodes) ≤ 2 ^ 26 → walked k bytes ≡ Text (contig_text k nodes)
+      contig_answers none small = ap (λ o. unless o (contig_text k nodes)) (to_text none ∙ passes (2 ^ 26) (length (contig_text k nodes)) TooMuchText [] small)
 
 -- what no fault is named for has none
 pub none_named : (o : Option InputFault) → ((fault : InputFault) → o ≡ Some fault → ⊥) → o ≡ None
@@ -107,7 +166,8 @@ consumed_length (Some xs) (Some ys) taken c = omega (arith, ap length c, length-
 
 -- too many bytes are refused whatever is asked for
 long_refused : (settings : Settings) (bytes : List ℕ) → 2 ^ 26 < length bytes → verdict (Some settings) bytes ≡ Refused TooManyBytes
-long_refused (Count k ranks min choice hist) bytes long = refuses k min bytes TooManyBytes (too_long k bytes long)
+long_refused (Count k ranks min choice hist) bytes long = count_too_long k min bytes long
+long_refused (Contigs k ranks choice) bytes long = contigs_too_long k bytes long
 
 too_large : (words : List (List ℕ)) (settings : Settings) (left new : Option (List ℕ)) (taken : List ℕ) → Reads words (Some settings) → 2 ^ 26 < length taken → Consumes left new taken
     → IfSome left (λ bytes. IsVerdict words bytes (Refused TooManyBytes))

@@ -4,7 +4,7 @@ use Rattle.std.specs.Prelude.{ℕ, List, ◌++◌, codes, decimal}
 use Rattle.kmer_text.specs.declared.fault.Kind.{Kind}
 use Rattle.kmer_text.specs.declared.fault.Kind.TheVariants as kind
 use Rattle.bcl_run.specs.declared.refusal.Refusal.{Refusal}
-use Rattle.bcl_run.specs.declared.refusal.Refusal.TheVariants.{TooManyBytes, TooManyLines, Line, TooManyWindows}
+use Rattle.bcl_run.specs.declared.refusal.Refusal.TheVariants.{TooManyBytes, TooManyLines, Line, TooManyWindows, Conflict, TooMuchText}
 use Rattle.bcl_run.specs.declared.stop.Stop.{Stop}
 use Rattle.bcl_run.specs.declared.stop.Stop.TheVariants as stops
 
@@ -21,11 +21,16 @@ fault_words kind.Length = codes "bad length"
 fault_words kind.Tab = codes "no tab"
 fault_words kind.Extension = codes "bad extension"
 
+abbrev pub line_message : ℕ → List ℕ → List ℕ
+line_message line what = codes "line " ++ (decimal line ++ (codes ": " ++ (what ++ codes "\n")))
+
 abbrev pub refusal_message : Refusal → List ℕ
 refusal_message TooManyBytes = codes "too large: more than 67108864 bytes\n"
 refusal_message TooManyLines = codes "too large: more than 4194304 lines\n"
-refusal_message (Line fault) = codes "line " ++ (decimal fault.line ++ (codes ": " ++ (fault_words fault.kind ++ codes "\n")))
+refusal_message (Line fault) = line_message fault.line (fault_words fault.kind)
 refusal_message TooManyWindows = codes "too large: more than 8388608 windows\n"
+refusal_message (Conflict line) = line_message line (codes "conflict")
+refusal_message TooMuchText = codes "too large: more than 67108864 bytes of text\n"
 
 abbrev pub read_fault_message : List ℕ
 read_fault_message = codes "read fault\n"

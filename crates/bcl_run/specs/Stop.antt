@@ -7,6 +7,9 @@ use Rattle.kmer_text.specs.declared.lines.CutFault.{CutFault}
 use Rattle.kmer_text.specs.declared.lines.CutFault.TheVariants as cuts
 use Rattle.kmer_text.specs.declared.check.LetterFault.{LetterFault}
 use Rattle.kmer_text.specs.declared.check.LetterFault.TheVariants as letters
+use Rattle.kmer_text.specs.declared.fault.InputFault.{InputFault}
+use Rattle.kmer_walk.specs.declared.fault.WalkFault.{WalkFault}
+use Rattle.kmer_walk.specs.declared.fault.WalkFault.TheVariants as walks
 use Rattle.bcl_run.specs.declared.refusal.Refusal.TheVariants as refusals
 use Rattle.bcl_run.specs.declared.stop.Stop.{Stop}
 use Rattle.bcl_run.specs.declared.stop.Stop.TheVariants as stops
@@ -30,3 +33,11 @@ stop_of_cut cuts.TooManyLines = stops.Refused refusals.TooManyLines
 abbrev pub stop_of_letters : LetterFault → Stop
 stop_of_letters (letters.Bad line) = stops.Refused (refusals.Line line)
 stop_of_letters letters.TooManyWindows = stops.Refused refusals.TooManyWindows
+
+abbrev pub stop_of_node : InputFault → Stop
+stop_of_node line = stops.Refused (refusals.Line line)
+
+abbrev pub stop_of_walk : WalkFault → Stop
+stop_of_walk walks.NoMemory = stops.NoMemory
+stop_of_walk (walks.Conflict line) = stops.Refused (refusals.Conflict line)
+stop_of_walk walks.TooLong = stops.Refused refusals.TooMuchText

@@ -2,14 +2,15 @@
 
 ghost use Rattle.std.specs.Prelude.{◌≡◌, ◌^◌, ◌<◌, ◌≤◌, length, IfOk, IfErr, Some};
 ghost use Rattle.kmer_text.specs.Kmers.{IsKmerLength};
-ghost use Rattle.bcl_run.specs.Verdict.{Text, counted, verdict};
+ghost use Rattle.bcl_run.specs.Verdict.{Text, counted, walked, verdict};
 ghost use Rattle.bcl_run.specs.Settings.{IsOffered};
 ghost use Rattle.bcl_run.specs.Owed.{Excuses};
 
 use crate::Settings;
 use crate::stop::Stop;
 use kmer_count::count_text;
-use kmer_text::{Lines, check_letters};
+use kmer_text::{Lines, check_letters, check_nodes};
+use kmer_walk::{plain_contigs, text_of};
 use std::alloc::Global;
 
 /// The most bytes of an input.
@@ -28,6 +29,19 @@ fn counted(alloc: Global, k: u32, least: u64, bytes: Vec<u8>) -> Result<Vec<u8>,
     Ok(count_text(alloc, &lines, k, least)?)
 }
 
+/// The contigs of the bytes, one a line.
+fn walked(alloc: Global, k: u32, bytes: Vec<u8>) -> Result<Vec<u8>, Stop>
+    requires k { IsKmerLength k }
+    requires short { length bytes.items ≤ 2 ^ 26 }
+    ensures text { IfOk result (λ text. walked k bytes.items ≡ Text text.items) }
+    ensures stop { IfErr result (Excuses (walked k bytes.items)) }
+{
+    let lines = Lines::cut(alloc, bytes)?;
+    check_nodes(&lines, k)?;
+    let texts = plain_contigs(alloc, &lines, k)?;
+    Ok(text_of(alloc, &texts)?)
+}
+
 /// The text that the settings ask for of these bytes.
 pub(crate) fn answer(alloc: Global, settings: &Settings, bytes: Vec<u8>) -> Result<Vec<u8>, Stop>
     requires offered { IsOffered settings.now }
@@ -37,5 +51,6 @@ pub(crate) fn answer(alloc: Global, settings: &Settings, bytes: Vec<u8>) -> Resu
 {
     match *settings {
         Settings::Count { k, min, .. } => counted(alloc, k, min, bytes),
+        Settings::Contigs { k, .. } => walked(alloc, k, bytes),
     }
 }

@@ -3,15 +3,13 @@
 ghost use Rattle.std.specs.Prelude.{◌≡◌, OnOk, OnErr};
 ghost use Rattle.std.specs.Io.KnownBytes.{Appends};
 ghost use Rattle.bcl_io.specs.Faults.{Rose};
-ghost use Rattle.kmer_text.specs.declared.fault.InputFault.{InputFault as AnyFault};
-ghost use Rattle.bcl_run.specs.declared.refusal.Refusal.TheVariants as refusals;
-ghost use Rattle.bcl_run.specs.Message.{fault_words, refusal_message, message_of};
+ghost use Rattle.bcl_run.specs.Message.{fault_words, line_message, message_of};
 
 use crate::Refusal;
 use crate::stop::Stop;
 use bcl_io::{Failed, Sink, write_all};
 use itoa::Buffer;
-use kmer_text::{InputFault, Kind};
+use kmer_text::Kind;
 
 const USAGE: &[u8] = b"\
 usage: bcl count K [--ranks N] [--min M] [--promise own|any] [--hist]
@@ -31,15 +29,15 @@ fn words_of(kind: Kind) -> &'static [u8]
     }
 }
 
-/// Names a bad line.
-fn tell_line<E: Sink>(err: &mut E, fault: InputFault) -> Result<(), Failed>
-    ensures message { OnOk result (Appends (E.taken err.old) (E.taken err.new) (refusal_message (refusals.Line fault))) }
+/// Names a line, and what is wrong with it.
+fn tell_line<E: Sink>(err: &mut E, line: u64, what: &[u8]) -> Result<(), Failed>
+    ensures message { OnOk result (Appends (E.taken err.old) (E.taken err.new) (line_message line what.now)) }
     ensures failed { OnErr result (Rose (E.faults err.old) (E.faults err.new)) }
 {
     write_all(err, b"line ")?;
-    write_all(err, Buffer::new().format(fault.line).as_bytes())?;
+    write_all(err, Buffer::new().format(line).as_bytes())?;
     write_all(err, b": ")?;
-    write_all(err, words_of(fault.kind))?;
+    write_all(err, what)?;
     write_all(err, b"\n")
 }
 
@@ -55,9 +53,13 @@ pub(crate) fn tell<E: Sink>(err: &mut E, stop: Stop) -> Result<(), Failed>
         Stop::Refused(Refusal::TooManyLines) => {
             write_all(err, b"too large: more than 4194304 lines\n")
         }
-        Stop::Refused(Refusal::Line(fault)) => tell_line(err, fault),
+        Stop::Refused(Refusal::Line(fault)) => tell_line(err, fault.line, words_of(fault.kind)),
         Stop::Refused(Refusal::TooManyWindows) => {
             write_all(err, b"too large: more than 8388608 windows\n")
+        }
+        Stop::Refused(Refusal::Conflict(line)) => tell_line(err, line, b"conflict"),
+        Stop::Refused(Refusal::TooMuchText) => {
+            write_all(err, b"too large: more than 67108864 bytes of text\n")
         }
         Stop::Usage => write_all(err, USAGE),
         Stop::ReadFault => write_all(err, b"read fault\n"),

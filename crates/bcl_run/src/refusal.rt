@@ -13,4 +13,8 @@ pub enum Refusal {
     Line(InputFault),
     /// There are more than 2^23 windows.
     TooManyWindows,
+    /// The number, from 1, of the first line whose extensions differ from those of the first line of its key.
+    Conflict(u64),
+    /// The contigs have more than 2^26 bytes, newlines counted.
+    TooMuchText,
 }

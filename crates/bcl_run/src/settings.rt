@@ -31,6 +31,12 @@ pub enum Settings {
         choice: Choice,
         hist: bool,
     },
+    /// Walk the contigs of nodes with keys of `k` letters, with `ranks` ranks.
+    Contigs {
+        k: u32,
+        ranks: u32,
+        choice: Choice,
+    },
 }
 
 /// The number of letters that a word asks for.
@@ -50,19 +56,27 @@ fn mode_of(name: &str, number: &str) -> Option<Settings>
     ensures some { IfSome result (AsksFor (name.now ∷ number.now ∷ [])) }
     ensures none { IfNone result ((settings : AnySettings) → AsksFor (name.now ∷ number.now ∷ []) settings → ⊥) }
 {
-    if name != "count" {
-        return None;
+    if name == "count" {
+        return Some(Settings::Count {
+            k: letters_in(number)?,
+            ranks: RANKS,
+            min: 1,
+            choice: Choice::Own,
+            hist: false,
+        });
     }
-    Some(Settings::Count {
-        k: letters_in(number)?,
-        ranks: RANKS,
-        min: 1,
-        choice: Choice::Own,
-        hist: false,
-    })
+    if name == "contigs" {
+        return Some(Settings::Contigs {
+            k: letters_in(number)?,
+            ranks: RANKS,
+            choice: Choice::Own,
+        });
+    }
+    None
 }
 
-/// Reads the words behind the program's name: `count K`, with K from 1 to 31. Each other list of words asks for nothing.
+/// Reads the words behind the program's name: `count K` or `contigs K`, with K from 1 to 31. Each other list of words asks
+/// for nothing.
 pub fn settings_of(words: &[String]) -> Option<Settings>
     ensures { Reads (map string_bytes words.now) result }
 {

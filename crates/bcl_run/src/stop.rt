@@ -1,13 +1,14 @@
 //! Why a run ends without its text, and the status that says so.
 
 ghost use Rattle.std.specs.Prelude.{◌≡◌};
-ghost use Rattle.bcl_run.specs.Stop.{status_of, stop_of_read, stop_of_cut, stop_of_letters};
+ghost use Rattle.bcl_run.specs.Stop.{status_of, stop_of_read, stop_of_cut, stop_of_letters, stop_of_node, stop_of_walk};
 ghost use Rattle.bcl_run.specs.declared.stop.Stop.TheVariants as stops;
 
 use crate::Refusal;
 use bcl_io::{Failed, ReadFault};
 use bcl_words::NoMemory;
-use kmer_text::{CutFault, LetterFault};
+use kmer_text::{CutFault, InputFault, LetterFault};
+use kmer_walk::WalkFault;
 
 #[derive(Clone, Copy, Debug, PartialEq, Eq)]
 pub(crate) enum Stop {
@@ -70,6 +71,26 @@ impl From<LetterFault> for Stop {
         match fault {
             LetterFault::Bad(line) => Stop::Refused(Refusal::Line(line)),
             LetterFault::TooManyWindows => Stop::Refused(Refusal::TooManyWindows),
+        }
+    }
+}
+
+impl From<InputFault> for Stop {
+    ghost from_gives = { λ fault stop. stop ≡ stop_of_node fault };
+
+    fn from(fault: InputFault) -> Self {
+        Stop::Refused(Refusal::Line(fault))
+    }
+}
+
+impl From<WalkFault> for Stop {
+    ghost from_gives = { λ fault stop. stop ≡ stop_of_walk fault };
+
+    fn from(fault: WalkFault) -> Self {
+        match fault {
+            WalkFault::NoMemory => Stop::NoMemory,
+            WalkFault::Conflict(line) => Stop::Refused(Refusal::Conflict(line)),
+            WalkFault::TooLong => Stop::Refused(Refusal::TooMuchText),
         }
     }
 }

@@ -117,6 +117,48 @@ fn bad_input_is_refused_unwritten_and_its_line_named(rt: HostRuntime) -> Result<
 }
 
 #[test]
+fn contigs_are_written_in_byte_order(rt: HostRuntime) -> Result<(), Fail> {
+    let cases = [
+        (
+            b"ACG\tFT\nCGT\tAA\nGTA\tCF\n".as_slice(),
+            b"ACGTA\n".as_slice(),
+        ),
+        (b"AAA\tFA\n", b"AAA\n"),
+        (b"ACG\tFT\n", b"ACG\n"),
+        (b"ACG\tFT\r\n\nACG\tFT", b"ACG\n"),
+        (b"TTT\tFF\nCCC\tFF\n", b"CCC\nTTT\n"),
+        (b"ACG\tAT\n", b""),
+        (b"", b""),
+    ];
+    for (input, text) in cases {
+        let ran = ran(&rt, "contigs 3", input, NO_FAULTS)?;
+        assert_eq!(rt; ran.status, 0, "{input:?}");
+        assert_eq!(rt; ran.written.as_slice(), text, "{input:?}");
+        assert!(rt; ran.said.is_empty(), "{input:?}");
+    }
+    Ok(())
+}
+
+#[test]
+fn bad_nodes_and_conflicts_are_refused_and_named(rt: HostRuntime) -> Result<(), Fail> {
+    let cases = [
+        (b"ACG\tF\n".as_slice(), b"line 1: bad length\n".as_slice()),
+        (b"\nACX FF\n", b"line 2: bad letter\n"),
+        (b"ACG\tFF\nACG FX\n", b"line 2: no tab\n"),
+        (b"ACG\tNF\n", b"line 1: bad extension\n"),
+        (b"ACG\tFT\nACG\tFT\nACG\tFA\n", b"line 3: conflict\n"),
+        (b"ACG\tFT\nACG\tFA\nACG\n", b"line 3: bad length\n"),
+    ];
+    for (input, message) in cases {
+        let ran = ran(&rt, "contigs 3", input, NO_FAULTS)?;
+        assert_eq!(rt; ran.status, 1, "{input:?}");
+        assert!(rt; ran.written.is_empty(), "{input:?}");
+        assert_eq!(rt; ran.said.as_slice(), message, "{input:?}");
+    }
+    Ok(())
+}
+
+#[test]
 fn other_words_get_the_usage(rt: HostRuntime) -> Result<(), Fail> {
     let lines = [
         "",
@@ -128,6 +170,8 @@ fn other_words_get_the_usage(rt: HostRuntime) -> Result<(), Fail> {
         "count 32 --ranks 2",
         "count 3 3",
         "counts 3",
+        "contigs",
+        "contigs 32",
         "contigs 3 --min 2",
         "count 3 --min 0",
         "count 3 --ranks=2",
@@ -222,6 +266,13 @@ fn options_have_their_defaults(rt: HostRuntime) -> Result<(), Fail> {
         min: 1,
         choice: Choice::Own,
         hist: false,
+    };
+    assert_eq!(rt; settings, Some(defaults));
+    let settings = settings_of(&words_of(rt.alloc(), "contigs 21")?);
+    let defaults = Settings::Contigs {
+        k: 21,
+        ranks: 4,
+        choice: Choice::Own,
     };
     assert_eq!(rt; settings, Some(defaults));
     Ok(())

@@ -50,12 +50,13 @@ good_from k n [] i good h = absurd (omega arith)
 good_from k n (line ∷ ls) zero good h = (none_of_both n (line_fault k line) (bad_node_from k (n + 1) ls) good).0
 good_from k n (line ∷ ls) (suc i) good h = good_from k (n + 1) ls i (none_of_both n (line_fault k line) (bad_node_from k (n + 1) ls) good).1 (omega arith)
 
+-- the reason behind the tab
+abbrev last : ℕ → List ℕ → List (Option Kind)
+last k line = when (not (are_extensions k line)) kind.Extension ∷ []
+
 -- the reasons behind the letters
 abbrev behind : ℕ → List ℕ → List (Option Kind)
-behind k line =
-    when (not (eqb (get_or line k 0) 9)) kind.Tab
-    ∷ when (not (are_extensions k line)) kind.Extension
-    ∷ []
+behind k line = when (not (eqb (get_or line k 0) 9)) kind.Tab ∷ last k line
 
 -- the reasons behind the length
 abbrev later : ℕ → List ℕ → List (Option Kind)
@@ -86,6 +87,33 @@ of_letters k line some good =
     absurd (none-some kind.Letter (sym (not_empty_fault k line some good) ∙ other)))
     (cases_Bool (are_letters (take k line)))
 
+has_tab : (k : ℕ) (line : List ℕ) → length line ≢ 0 → line_fault k line ≡ None → eqb (get_or line k 0) 9 ≡ true
+has_tab k line some good =
+    ⊎_elim
+    (λ (yes : eqb (get_or line k 0) 9 ≡ true). yes)
+    (λ (no : eqb (get_or line k 0) 9 ≡ false).
+    let long = ap not (eq-eqb (length line) (k + 3) (long_enough k line some good)) in
+    let other : node_fault k line ≡ Some kind.Tab =
+    first_of-passes (not (eqb (length line) (k + 3))) kind.Length (later k line) long
+    ∙ (first_of-passes (not (are_letters (take k line))) kind.Letter (behind k line) (ap not (of_letters k line some good))
+    ∙ first_of-applies (not (eqb (get_or line k 0) 9)) kind.Tab (last k line) (ap not no)) in
+    absurd (none-some kind.Tab (sym (not_empty_fault k line some good) ∙ other)))
+    (cases_Bool (eqb (get_or line k 0) 9))
+
+of_extensions : (k : ℕ) (line : List ℕ) → length line ≢ 0 → line_fault k line ≡ None → are_extensions k line ≡ true
+of_extensions k line some good =
+    ⊎_elim
+    (λ (yes : are_extensions k line ≡ true). yes)
+    (λ (no : are_extensions k line ≡ false).
+    let long = ap not (eq-eqb (length line) (k + 3) (long_enough k line some good)) in
+    let other : node_fault k line ≡ Some kind.Extension =
+    first_of-passes (not (eqb (length line) (k + 3))) kind.Length (later k line) long
+    ∙ (first_of-passes (not (are_letters (take k line))) kind.Letter (behind k line) (ap not (of_letters k line some good))
+    ∙ (first_of-passes (not (eqb (get_or line k 0) 9)) kind.Tab (last k line) (ap not (has_tab k line some good))
+    ∙ first_of-applies (not (are_extensions k line)) kind.Extension [] (ap not no))) in
+    absurd (none-some kind.Extension (sym (not_empty_fault k line some good) ∙ other)))
+    (cases_Bool (are_extensions k line))
+
 -- a line that isn't empty has its k + 3 bytes
 pub length-good : (k i : ℕ) (ls : List (List ℕ)) (line : List ℕ) → bad_node k ls ≡ None → i < length ls → slice_get ls i ≡ Some line → length line ≢ 0 → length line ≡ k + 3
 length-good k i ls line good h at some =
@@ -97,6 +125,10 @@ pub node-good : (k i : ℕ) (ls : List (List ℕ)) → bad_node k ls ≡ None �
 node-good k i ls good h some =
     let fine = good_from k 1 ls i good h in
     (long_enough k (line_at ls i) some fine, of_letters k (line_at ls i) some fine)
+
+-- the extensions of such a line
+pub extensions-good : (k i : ℕ) (ls : List (List ℕ)) → bad_node k ls ≡ None → i < length ls → length (line_at ls i) ≢ 0 → are_extensions k (line_at ls i) ≡ true
+extensions-good k i ls good h some = of_extensions k (line_at ls i) some (good_from k 1 ls i good h)
 
 pub not_empty : (line : List ℕ) → false ≡ eqb (length line) 0 → length line ≢ 0
 not_empty line h e = let full : eqb (length line) 0 ≡ true = eq-eqb (length line) 0 e in cc

@@ -14,7 +14,7 @@ two_to_twice (suc j) =
     ap (λ n. 2 ^ n) more ∙ omega (arith, two-pow-succ (2 * j), two-pow-succ (suc (2 * j)), two_to_twice j, four-suc j)
 
 -- the mask of j letters keeps the last j
-masked : (bits j : ℕ) → j ≤ 30 → bit_and bits (1 * 2 ^ (2 * j) % 2 ^ 64 - 1) ≡ bits % 4 ^ j
+pub masked : (bits j : ℕ) → j ≤ 30 → bit_and bits (1 * 2 ^ (2 * j) % 2 ^ 64 - 1) ≡ bits % 4 ^ j
 masked bits j few =
     let most : 2 ^ (2 * j) ≤ 2 ^ 60 = pow-le-pow_right {n = 2} (omega arith) {i = 2 * j} {j = 60} (omega arith) in
     let one : 1 * 2 ^ (2 * j) ≡ 2 ^ (2 * j) = omega arith in

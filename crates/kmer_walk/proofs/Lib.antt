@@ -1,2 +1,9 @@
 pub mod Places
 pub mod Conflicts
+pub mod Repeats
+pub mod Paths
+pub mod Walks
+pub mod NextKeys
+pub mod Walking
+pub mod Starts
+pub mod ByteOrder

@@ -26,3 +26,8 @@ returns-in-WriteFault-clause-message g c = rw c.in-WriteFault.is c.write_all-in-
 
 pub returns-in-NoMemory-clause-message : goal.returns-in-NoMemory-clause-message
 returns-in-NoMemory-clause-message g c = rw c.in-NoMemory.is c.write_all-in-NoMemory.ensures.all
+
+pub returns-in-Refused-TooMuchText-clause-message : goal.returns-in-Refused-TooMuchText-clause-message
+returns-in-Refused-TooMuchText-clause-message g c =
+    let why = rw c.in-Refused-TooMuchText.is at c.in-Refused-TooMuchText.field-0-is in
+    rw (c.in-Refused-TooMuchText.is, why) c.write_all-in-Refused-TooMuchText.ensures.all

@@ -1,0 +1,19 @@
+use Rattle.std.proofs.Common.{◌≢◌, ◌+◌, ◌-◌, ◌<◌, ◌≤◌, length}
+use Rattle.std.specs.List.{All}
+use Rattle.kmer_text.specs.Nodes.{line_at}
+use Rattle.kmer_walk.proofs.Walking.{Walking}
+use Rattle.kmer_walk.proofs.walk.contig_of.Given as goal
+
+-- the walk is on its way, with as many steps as letters behind the key
+abbrev pub invariant-loop-next : goal.invariant-loop-next
+invariant-loop-next l = record {
+  walking : Walking l.k l.lines l.start (length l.text.items - l.k) l.place l.text.items l.marks;
+  key : l.k ≤ length l.text.items;
+  short : length l.text.items ≤ l.most;
+  in_range : l.place < length l.lines;
+  some : length (line_at l.lines l.place) ≢ 0;
+  later : All (λ mark. mark ≤ l.start + 1) l.marks;
+}
+
+abbrev pub decreases-loop-next : goal.decreases-loop-next
+decreases-loop-next l = l.most - length l.text.items

@@ -1,0 +1,63 @@
+//! The contig of a start.
+
+ghost use Rattle.std.specs.Prelude.{◌≡◌, ◌≢◌, ℕ, ◌+◌, ◌^◌, ◌<◌, ◌≤◌, None, length, All, IfOk, IsErrOf};
+ghost use Rattle.std.specs.Ordering.{nat_cmp};
+ghost use Rattle.std.specs.BTreeMap.{get};
+ghost use Rattle.kmer_text.specs.Kmers.{IsKmerLength, word_of};
+ghost use Rattle.kmer_text.specs.Nodes.{bad_node, line_at};
+ghost use Rattle.kmer_walk.specs.Keys.{first_place};
+ghost use Rattle.kmer_walk.specs.Contigs.{contig};
+
+use crate::next::next_of;
+use crate::{Firsts, WalkFault};
+use kmer_text::Lines;
+use std::alloc::Global;
+
+/// The contig of a start, where it has at most so many letters. No more than these are built.
+///
+/// A walk marks each line that it comes to by the number of its start, so that it knows its own lines in one look-up,
+/// and the marks of earlier walks are none of its own.
+pub(crate) fn contig_of(
+    alloc: Global,
+    lines: &Lines,
+    k: u32,
+    firsts: &Firsts,
+    marks: &mut [u32],
+    start: u32,
+    most: usize,
+) -> Result<Vec<u8>, WalkFault>
+    requires k { IsKmerLength k }
+    requires good { bad_node k lines.now ≡ None }
+    requires firsts { (key : ℕ) → key < 4 ^ k → get nat_cmp firsts.now key ≡ first_place k lines.now (word_of k key) }
+    requires few { length lines.now ≤ 2 ^ 22 }
+    requires start { start < length lines.now }
+    requires some { length (line_at lines.now start) ≢ 0 }
+    requires marks { length marks.old ≡ length lines.now }
+    requires earlier { All (λ mark. mark ≤ start) marks.old }
+    ensures contig { IfOk result (λ text. text.items ≡ contig k lines.now start) }
+    ensures short { IfOk result (λ text. length text.items ≤ most) }
+    ensures too_long { IsErrOf result WalkFault.TooLong → most < length (contig k lines.now start) }
+    ensures no_conflict { (n : ℕ) → IsErrOf result (WalkFault.Conflict n) → ⊥ }
+    ensures later { All (λ mark. mark ≤ start + 1) marks.new }
+{
+    let mark = start + 1;
+    let last = k as usize + 2;
+    if most < k as usize {
+        return Err(WalkFault::TooLong);
+    }
+    let mut text = Vec::from_slice(alloc, &lines.line(start)[..k as usize])?;
+    let mut place = start;
+    marks[place as usize] = mark;
+    while let Some(next) = next_of(lines, k, firsts, place) {
+        if marks[next as usize] == mark {
+            break;
+        }
+        if text.len() == most {
+            return Err(WalkFault::TooLong);
+        }
+        text.push(lines.line(place)[last])?;
+        marks[next as usize] = mark;
+        place = next;
+    }
+    Ok(text)
+}
