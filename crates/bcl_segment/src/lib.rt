@@ -19,7 +19,8 @@
 //! - `seat`: what a thread steps with, and what it knows.
 //! - `tells`: what a step tells its caller.
 //! - `segments`: how segments are made, and how a seat is cut in two and joined.
-//! - `steps`: the operations. `specs/Steps.antt` says what each asks of the rule.
+//! - `steps`: the operations. `specs/Allowed.antt` says what each asks of the rule, by the definitions on plain data in
+//!   `specs/Steps.antt`.
 //! - `rising`: a counter that only rises, the rule of a test, which is the shortest example of it all.
 //!
 //! Every step is sequentially consistent.

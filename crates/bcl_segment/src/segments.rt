@@ -25,7 +25,8 @@ pub struct Segments<R: Rule> {
 
 impl<R: Rule> Segments<R> {
     ghost use Rattle.bcl_segment.specs.Parts.{key_of, layout_of, heads_of, number_of, view_of, IsSeatOf, IsSameSeat};
-    ghost use Rattle.bcl_segment.specs.Steps.{opened, Splits, Joins};
+    ghost use Rattle.bcl_segment.specs.Steps.{opened};
+    ghost use Rattle.bcl_segment.specs.Allowed.{MaySplit, MayJoin};
 
     /// Segments that hold these words, and their first seat.
     ///
@@ -73,7 +74,7 @@ impl<R: Rule> Segments<R> {
     /// the rule allows the split.
     pub fn split<M: Split<R::View>>(&self, seat: &mut Seat<R>) -> Seat<R>
         requires seat { IsSeatOf seat.old self.now }
-        requires rule { Splits (R.holds (key_of self.now)) (number_of seat.old) (view_of seat.old) (M.left (view_of seat.old)) (M.right (view_of seat.old)) }
+        requires rule { MaySplit R.holds self.now seat.old (M.left (view_of seat.old)) (M.right (view_of seat.old)) }
         ensures right { view_of result ≡ M.right (view_of seat.old) }
         ensures left { view_of seat.new ≡ M.left (view_of seat.old) }
         ensures new { IsSeatOf result self.now }
@@ -92,7 +93,7 @@ impl<R: Rule> Segments<R> {
     pub fn join<M: Join<R::View>>(&self, seat: &mut Seat<R>, other: Seat<R>)
         requires seat { IsSeatOf seat.old self.now }
         requires other { IsSeatOf other self.now }
-        requires rule { Joins (R.holds (key_of self.now)) (number_of seat.old) (view_of seat.old) (number_of other) (view_of other) (M.both (view_of seat.old) (view_of other)) M.spent }
+        requires rule { MayJoin R.holds self.now seat.old other (M.both (view_of seat.old) (view_of other)) M.spent }
         ensures both { view_of seat.new ≡ M.both (view_of seat.old) (view_of other) }
         ensures same { IsSameSeat seat.old seat.new }
     {

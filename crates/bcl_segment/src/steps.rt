@@ -1,12 +1,13 @@
 //! The one-sided operations: each is one atomic step on the word at a spot.
 //!
 //! All have the same conditions: the segments have the spot, the seat is of these segments, and the rule allows the
-//! step, as `Steps` says: whatever the words and the views are, the seat has a new view that keeps the rule, and what
+//! step, as `MayStep` says: whatever the words and the views are, the seat has a new view that keeps the rule, and what
 //! `M` tells holds of it. What `M` tells is then known to the caller, and the seat keeps its number.
 
 ghost use Rattle.std.specs.Prelude.{◌≡◌, ◌≢◌, ◌+◌, ◌-◌, ◌%◌, ◌<◌, ◌^◌, ◌==◌, min, bit_or, IfOk, IfErr, if◌then◌else◌};
-ghost use Rattle.bcl_segment.specs.Steps.{Steps, found_by};
-ghost use Rattle.bcl_segment.specs.Parts.{id_of, key_of, number_of, view_of, word_of, HasSpot, IsSeatOf, IsSameSeat};
+ghost use Rattle.bcl_segment.specs.Steps.{found_by};
+ghost use Rattle.bcl_segment.specs.Parts.{id_of, view_of, word_of, HasSpot, IsSeatOf, IsSameSeat};
+ghost use Rattle.bcl_segment.specs.Allowed.{MayStep};
 
 use crate::tells::Told;
 use crate::{Rule, Seat, Segments, Spot, Tells};
@@ -31,7 +32,7 @@ impl<R: Rule> Segments<R> {
     pub fn get<M: Tells<R::View>>(&self, seat: &mut Seat<R>, spot: Spot) -> u64
         requires spot { HasSpot self.now spot }
         requires seat { IsSeatOf seat.old self.now }
-        requires rule { Steps (R.holds (key_of self.now)) (number_of seat.old) (view_of seat.old) (word_of self.now spot) (λ n. n) (M.then (word_of self.now spot) 0 0 (view_of seat.old)) }
+        requires rule { MayStep R.holds self.now seat.old spot (λ n. n) (M.then (word_of self.now spot) 0 0 (view_of seat.old)) }
         ensures told { M.then (word_of self.now spot) 0 0 (view_of seat.old) result (view_of seat.new) }
         ensures same { IsSameSeat seat.old seat.new }
     {
@@ -45,7 +46,7 @@ impl<R: Rule> Segments<R> {
     pub fn put<M: Tells<R::View>>(&self, seat: &mut Seat<R>, spot: Spot, word: u64)
         requires spot { HasSpot self.now spot }
         requires seat { IsSeatOf seat.old self.now }
-        requires rule { Steps (R.holds (key_of self.now)) (number_of seat.old) (view_of seat.old) (word_of self.now spot) (λ _. word) (λ _. M.then (word_of self.now spot) word 0 (view_of seat.old) word) }
+        requires rule { MayStep R.holds self.now seat.old spot (λ _. word) (λ _. M.then (word_of self.now spot) word 0 (view_of seat.old) word) }
         ensures told { M.then (word_of self.now spot) word 0 (view_of seat.old) word (view_of seat.new) }
         ensures same { IsSameSeat seat.old seat.new }
     {
@@ -68,7 +69,7 @@ impl<R: Rule> Segments<R> {
     ) -> Result<u64, u64>
         requires spot { HasSpot self.now spot }
         requires seat { IsSeatOf seat.old self.now }
-        requires rule { Steps (R.holds (key_of self.now)) (number_of seat.old) (view_of seat.old) (word_of self.now spot) (λ n. if n == old then new else n) (M.then (word_of self.now spot) old new (view_of seat.old)) }
+        requires rule { MayStep R.holds self.now seat.old spot (λ n. if n == old then new else n) (M.then (word_of self.now spot) old new (view_of seat.old)) }
         ensures ok { IfOk result (λ n. n ≡ old) }
         ensures err { IfErr result (λ n. n ≢ old) }
         ensures told { M.then (word_of self.now spot) old new (view_of seat.old) (found_by result) (view_of seat.new) }
@@ -86,7 +87,7 @@ impl<R: Rule> Segments<R> {
     pub fn fetch_add<M: Tells<R::View>>(&self, seat: &mut Seat<R>, spot: Spot, word: u64) -> u64
         requires spot { HasSpot self.now spot }
         requires seat { IsSeatOf seat.old self.now }
-        requires rule { Steps (R.holds (key_of self.now)) (number_of seat.old) (view_of seat.old) (word_of self.now spot) (λ n. (n + word) % 2 ^ 64) (M.then (word_of self.now spot) word 0 (view_of seat.old)) }
+        requires rule { MayStep R.holds self.now seat.old spot (λ n. (n + word) % 2 ^ 64) (M.then (word_of self.now spot) word 0 (view_of seat.old)) }
         ensures told { M.then (word_of self.now spot) word 0 (view_of seat.old) result (view_of seat.new) }
         ensures same { IsSameSeat seat.old seat.new }
     {
@@ -100,7 +101,7 @@ impl<R: Rule> Segments<R> {
     pub fn fetch_sub<M: Tells<R::View>>(&self, seat: &mut Seat<R>, spot: Spot, word: u64) -> u64
         requires spot { HasSpot self.now spot }
         requires seat { IsSeatOf seat.old self.now }
-        requires rule { Steps (R.holds (key_of self.now)) (number_of seat.old) (view_of seat.old) (word_of self.now spot) (λ n. (n + (2 ^ 64 - word)) % 2 ^ 64) (M.then (word_of self.now spot) word 0 (view_of seat.old)) }
+        requires rule { MayStep R.holds self.now seat.old spot (λ n. (n + (2 ^ 64 - word)) % 2 ^ 64) (M.then (word_of self.now spot) word 0 (view_of seat.old)) }
         ensures told { M.then (word_of self.now spot) word 0 (view_of seat.old) result (view_of seat.new) }
         ensures same { IsSameSeat seat.old seat.new }
     {
@@ -114,7 +115,7 @@ impl<R: Rule> Segments<R> {
     pub fn fetch_or<M: Tells<R::View>>(&self, seat: &mut Seat<R>, spot: Spot, word: u64) -> u64
         requires spot { HasSpot self.now spot }
         requires seat { IsSeatOf seat.old self.now }
-        requires rule { Steps (R.holds (key_of self.now)) (number_of seat.old) (view_of seat.old) (word_of self.now spot) (λ n. bit_or n word) (M.then (word_of self.now spot) word 0 (view_of seat.old)) }
+        requires rule { MayStep R.holds self.now seat.old spot (λ n. bit_or n word) (M.then (word_of self.now spot) word 0 (view_of seat.old)) }
         ensures told { M.then (word_of self.now spot) word 0 (view_of seat.old) result (view_of seat.new) }
         ensures same { IsSameSeat seat.old seat.new }
     {
@@ -128,7 +129,7 @@ impl<R: Rule> Segments<R> {
     pub fn fetch_min<M: Tells<R::View>>(&self, seat: &mut Seat<R>, spot: Spot, word: u64) -> u64
         requires spot { HasSpot self.now spot }
         requires seat { IsSeatOf seat.old self.now }
-        requires rule { Steps (R.holds (key_of self.now)) (number_of seat.old) (view_of seat.old) (word_of self.now spot) (λ n. min n word) (M.then (word_of self.now spot) word 0 (view_of seat.old)) }
+        requires rule { MayStep R.holds self.now seat.old spot (λ n. min n word) (M.then (word_of self.now spot) word 0 (view_of seat.old)) }
         ensures told { M.then (word_of self.now spot) word 0 (view_of seat.old) result (view_of seat.new) }
         ensures same { IsSameSeat seat.old seat.new }
     {
