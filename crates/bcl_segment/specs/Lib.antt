@@ -1,0 +1,5 @@
+pub mod Places
+pub mod Parts
+pub mod Steps
+pub mod Allowed
+pub mod Rising
