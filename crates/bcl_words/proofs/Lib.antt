@@ -1,1 +1,7 @@
 pub mod ReasonsLemmas
+pub mod WordsPass
+pub mod NumberReads
+pub mod PairsRead
+pub mod BytesRead
+pub mod ByteLoops
+pub mod AnyOrder

@@ -1,1 +1,13 @@
 pub mod Reasons
+pub mod Words
+pub mod WordLaws
+pub mod Numbers
+pub mod NumberLaws
+pub mod Pairs
+pub mod PairLaws
+pub mod PairValues
+pub mod Bytes
+pub mod ByteLaws
+pub mod ByteValues
+pub mod Merges
+pub mod Hash

@@ -6,3 +6,4 @@ pub mod Cuts
 pub mod BadLetters
 pub mod Rolling
 pub mod GoodNodes
+pub mod NodesRead

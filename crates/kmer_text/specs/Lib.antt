@@ -3,3 +3,5 @@ pub mod Letters
 pub mod Windows
 pub mod Kmers
 pub mod Nodes
+pub mod NodeWords
+pub mod NodeLaws

@@ -8,6 +8,7 @@
 //! - `windows`: the k-mers of a line, one after another.
 //! - `check`: whether lines have letters alone, and how many windows there are.
 //! - `node`: lines of a key and its extensions.
+//! - `objects`: k-mers and nodes as words.
 //! - `fault`: what is wrong with a line.
 //! - `order`: that the words of K letters, as the definitions list them, are all of them in byte order.
 #![tactic(auto)]
@@ -17,6 +18,7 @@ mod fault;
 mod kmer;
 mod lines;
 mod node;
+mod objects;
 mod order;
 #[cfg(test)]
 mod tests;

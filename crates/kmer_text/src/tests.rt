@@ -1,9 +1,10 @@
-//! Worked examples of lines, windows, packed words and nodes.
+//! Worked examples of lines, windows, packed words, nodes, and their words as objects.
 
 use crate::{
-    CutFault, InputFault, Kind, Kmer, LetterFault, Lines, Windows, check_letters, check_nodes,
-    node_of, window,
+    CutFault, InputFault, Kind, Kmer, LetterFault, Lines, Node, Windows, check_letters,
+    check_nodes, node_of, window,
 };
+use bcl_words::{Object, read_back};
 use std::alloc::Global;
 use std::test::Fail;
 
@@ -120,5 +121,23 @@ fn a_bad_node_is_named_by_its_first_fault(rt: HostRuntime) -> Result<(), Fail> {
         let checked = check_nodes(&cut(rt.alloc(), text)??, 3);
         assert_eq!(rt; checked, Err(InputFault { line, kind }), "in {text:?}");
     }
+    Ok(())
+}
+
+#[test]
+fn a_kmer_is_its_word_and_a_node_two(rt: HostRuntime) -> Result<(), Fail> {
+    let kmer = Kmer { bits: 27 };
+    assert_eq!(rt; kmer.to_words(), [27, 0, 0, 0, 0, 0, 0, 0]);
+    assert_eq!(rt; read_back(&kmer), Some(kmer));
+    assert_eq!(rt; Kmer::from_words(&[27, 1, 0, 0, 0, 0, 0, 0]), None);
+    let lines = cut(rt.alloc(), b"ACG\tFT")??;
+    if check_nodes(&lines, 3).is_ok() && lines.count() == 1 {
+        let (_, node) = node_of(&lines, 0, 3).ok_or("the first line is a node")?;
+        assert_eq!(rt; node.to_words(), [1, 35, 0, 0, 0, 0, 0, 0]);
+        assert_eq!(rt; read_back(&node), Some(node));
+    }
+    assert_eq!(rt; Node::from_words(&[1, 37, 0, 0, 0, 0, 0, 0]), None);
+    assert_eq!(rt; Node::from_words(&[1, 40, 0, 0, 0, 0, 0, 0]), None);
+    assert_eq!(rt; Node::from_words(&[1, 35, 1, 0, 0, 0, 0, 0]), None);
     Ok(())
 }
