@@ -44,9 +44,10 @@ module _ {V : Type 0} (words : V → List ℕ) where
 
   -- a map that has these entries
   module _ (capacity : ℕ) (entries : List (List ℕ × V)) (it : Bounded) (has : ◌≡◌ {A = Bounded} (record { capacity = capacity; pairs = pairs_at words entries }) it) where
-    pub value_is : (key : List ℕ) (value : Option V) → value ≡ lookup (is_at (slice_cmp nat_cmp key)) entries → option_map words value ≡ value_at key it.pairs
-    value_is key value e =
-        ap (option_map words) e
+    -- a value that is what a look-up found
+    pub value_is : (key : List ℕ) (value found : Option V) → value ≡ found → found ≡ lookup (is_at (slice_cmp nat_cmp key)) entries → option_map words value ≡ value_at key it.pairs
+    value_is key value found e e' =
+        ap (option_map words) (e ∙ e')
         ∙ sym (lookup_at_words (is_at (slice_cmp nat_cmp key)) entries)
         ∙ ap (λ (m : Bounded). value_at key m.pairs) has
 

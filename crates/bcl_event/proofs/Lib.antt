@@ -3,4 +3,4 @@ mod Entries
 mod Bits
 mod Presence
 pub mod Values
-pub mod NumbersPass
+mod NumbersPass

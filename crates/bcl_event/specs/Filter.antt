@@ -51,6 +51,10 @@ module _ {K : Type 0} (words : K → List ℕ) where
   filter_call (Insert key) = Insert (words key)
   filter_call (Find key) = Find (words key)
 
+abbrev pub IsInsert : {K : Type 0} → FilterCall K → Type 0
+IsInsert (Insert key) = Unit {0}
+IsInsert (Find key) = ⊥
+
 -- the bits of each block that has some
 pub record Marked : Type 0 where
   pub blocks : ℕ

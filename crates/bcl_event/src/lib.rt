@@ -29,7 +29,9 @@ mod tests;
 pub use array::{ArrayCall, ArrayReply};
 pub use event::Event;
 pub use filter::{FilterCall, FilterReply};
-pub use laws::{inserted_keys_are_present, stored_values_are_found};
+pub use laws::{
+    inserted_keys_are_present, numbers_make_numbers, numbers_name_promises, stored_values_are_found,
+};
 pub use map::{MapCall, MapReply};
 pub use queue::{QueueCall, QueueReply};
 pub use seq_array::SeqArray;

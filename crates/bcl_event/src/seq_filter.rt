@@ -4,7 +4,7 @@ ghost use Rattle.std.specs.Prelude.{◌≡◌, ◌≤◌, ◌<◌, ◌%◌, ◌=
 ghost use Rattle.std.specs.List.{All, list_all, list_any};
 ghost use Rattle.bcl_words.specs.Words.{Fits};
 ghost use Rattle.bcl_words.specs.Hash.{hash_of};
-ghost use Rattle.bcl_event.specs.Filter.{HoldsMarks, Marks, filter_step, filter_call, answer_at, four_bits, bits_at, has_bit};
+ghost use Rattle.bcl_event.specs.Filter.{HoldsMarks, IsInsert, Marks, filter_step, filter_call, answer_at, four_bits, bits_at, has_bit};
 
 use crate::filter::{FilterCall, FilterReply};
 use bcl_words::{NoMemory, Object, hash};
@@ -46,13 +46,15 @@ impl<K: Object> SeqFilter<K> {
         })
     }
 
-    /// Makes a call, in the logarithm of the number of marked blocks.
+    /// Makes a call, in the logarithm of the number of marked blocks. Only `Insert` may find no memory, and then nothing is
+    /// changed.
     pub fn step(&mut self, call: &FilterCall<K>) -> Result<FilterReply, NoMemory>
         requires fits { Fits K.WORDS }
         ensures reply { (keys : List (List ℕ)) → HoldsMarks K.WORDS self.old keys → IfOk result (λ reply. reply ≡ (filter_step self.old.blocks K.WORDS keys (filter_call K.words call.now)).0) }
         ensures state { (keys : List (List ℕ)) → HoldsMarks K.WORDS self.old keys → OnOk result (HoldsMarks K.WORDS self.new (filter_step self.old.blocks K.WORDS keys (filter_call K.words call.now)).1) }
         ensures blocks { self.new.blocks ≡ self.old.blocks }
         ensures unchanged { OnErr result (self.new ≡ self.old) }
+        ensures no_memory { OnErr result (IsInsert call.now) }
     {
         match call {
             FilterCall::Insert(key) => self.insert(hash_of_key(key)),

@@ -5,6 +5,7 @@ ghost use Rattle.std.specs.Option.{option_map};
 ghost use Rattle.bcl_words.specs.Words.{Fits};
 ghost use Rattle.bcl_words.specs.Numbers.{one_word};
 ghost use Rattle.bcl_words.specs.Merges.{AnswersLaw};
+ghost use Rattle.bcl_event.specs.declared.map.MapReply.TheVariants.{New};
 ghost use Rattle.bcl_event.specs.Map.{map_call, map_reply, value_at, with_value, new_map, bounded_step, put_step, MakesValues};
 
 use crate::map::{MapCall, MapReply};
@@ -44,7 +45,8 @@ impl<K: Object, V: Object> SeqMap<K, V> {
     }
 
     /// Makes a call, in the logarithm of the number of keys. `merge` answers the law; where the call makes a number, the
-    /// word of this number, with zeros behind it, is that of a value, as it always is for `u64`.
+    /// word of this number, with zeros behind it, is that of a value, as it always is for `u64`. It finds no memory only
+    /// where it would answer `New`, and then nothing is changed.
     pub fn step<L: MergeLaw<V>, F: Fn(V, V) -> V>(
         &mut self,
         call: &MapCall<K, V>,
@@ -57,6 +59,7 @@ impl<K: Object, V: Object> SeqMap<K, V> {
         ensures reply { IfOk result (λ reply. map_reply V.words reply ≡ (bounded_step L.op self.old (map_call K.words V.words call.now)).0) }
         ensures state { OnOk result (self.new ≡ (bounded_step L.op self.old (map_call K.words V.words call.now)).1) }
         ensures unchanged { OnErr result (self.new ≡ self.old) }
+        ensures no_memory { OnErr result ((bounded_step L.op self.old (map_call K.words V.words call.now)).0 ≡ New) }
     {
         match call {
             MapCall::Find(key) => Ok(match self.value(&key.to_words()) {
@@ -115,6 +118,7 @@ impl<K: Object, V: Object> SeqMap<K, V> {
         ensures reply { IfOk result (λ reply. map_reply V.words reply ≡ (put_step key (V.words value) self.old).0) }
         ensures state { OnOk result (self.new ≡ (put_step key (V.words value) self.old).1) }
         ensures unchanged { OnErr result (self.new ≡ self.old) }
+        ensures no_memory { OnErr result ((put_step key (V.words value) self.old).0 ≡ New) }
     {
         if self.values.len() == self.capacity as usize {
             return Ok(MapReply::Full);

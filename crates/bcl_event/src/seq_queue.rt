@@ -1,8 +1,9 @@
 //! The queue that one caller steps.
 
-ghost use Rattle.std.specs.Prelude.{◌≡◌, ◌≤◌, ◌^◌, IfOk, OnOk, OnErr};
+ghost use Rattle.std.specs.Prelude.{◌≡◌, ◌+◌, ◌≤◌, ◌^◌, IfOk, OnOk, OnErr};
 ghost use Rattle.std.specs.Option.{option_map};
 ghost use Rattle.bcl_event.specs.declared.queue.QueueCall.TheVariants.{Push, Pop};
+ghost use Rattle.bcl_event.specs.declared.queue.QueueReply.TheVariants.{Put};
 ghost use Rattle.bcl_event.specs.Queue.{queue_call, taken_item, new_queue, ticketed_step};
 
 use crate::queue::{QueueCall, QueueReply};
@@ -54,12 +55,13 @@ impl<T: Object> SeqQueue<T> {
     }
 
     /// Makes a call, in constant time but for the growth of its memory. With the reply comes the item that is taken, and
-    /// none where no item is.
+    /// none where no item is. It finds no memory only where it would answer `Put`, and then nothing is changed.
     pub fn step(&mut self, call: &QueueCall<T>) -> Result<(QueueReply, Option<T>), NoMemory>
         ensures reply { IfOk result (λ answer. answer.0 ≡ (ticketed_step self.old (queue_call T.words call.now)).0) }
         ensures item { IfOk result (λ answer. option_map T.words answer.1 ≡ taken_item self.old.queue (queue_call T.words call.now)) }
         ensures state { OnOk result (self.new ≡ (ticketed_step self.old (queue_call T.words call.now)).1) }
         ensures unchanged { OnErr result (self.new ≡ self.old) }
+        ensures no_memory { OnErr result ((ticketed_step self.old (queue_call T.words call.now)).0 ≡ Put (self.old.first + self.old.queue.puts)) }
     {
         match call {
             QueueCall::Push(item) => Ok((self.push(*item)?, None)),
@@ -71,6 +73,7 @@ impl<T: Object> SeqQueue<T> {
         ensures reply { IfOk result (λ reply. reply ≡ (ticketed_step self.old (Push (T.words item))).0) }
         ensures state { OnOk result (self.new ≡ (ticketed_step self.old (Push (T.words item))).1) }
         ensures unchanged { OnErr result (self.new ≡ self.old) }
+        ensures no_memory { OnErr result ((ticketed_step self.old (Push (T.words item))).0 ≡ Put (self.old.first + self.old.queue.puts)) }
     {
         let ticket = self.first + self.puts;
         if ticket == LAST_TICKET {

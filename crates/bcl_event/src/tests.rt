@@ -5,7 +5,8 @@ ghost use Rattle.std.specs.Prelude.{refl};
 
 use crate::{
     ArrayCall, ArrayReply, FilterCall, FilterReply, MapCall, MapReply, QueueCall, QueueReply,
-    SeqArray, SeqFilter, SeqMap, SeqQueue,
+    SeqArray, SeqFilter, SeqMap, SeqQueue, inserted_keys_are_present, numbers_make_numbers,
+    numbers_name_promises, stored_values_are_found,
 };
 use bcl_words::MergeLaw;
 use std::test::Fail;
@@ -54,6 +55,9 @@ fn a_map_merges_and_adds(rt: HostRuntime) -> Result<(), Fail> {
     assert_eq!(rt; reply, MapReply::Replaced);
     let reply = map.step::<Nought, _>(&MapCall::Find(3), &merge)?;
     assert_eq!(rt; reply, MapReply::Value(0));
+    stored_values_are_found();
+    numbers_make_numbers();
+    numbers_name_promises();
     let reply = map.step::<Nought, _>(&MapCall::Add(6, 1), &merge)?;
     assert_eq!(rt; reply, MapReply::Absent);
     Ok(())
@@ -110,6 +114,7 @@ fn a_filter_knows_what_was_inserted(rt: HostRuntime) -> Result<(), Fail> {
     assert_eq!(rt; reply, FilterReply::NotPresent);
     let reply = filter.step(&FilterCall::Insert(1))?;
     assert_eq!(rt; reply, FilterReply::Present);
+    inserted_keys_are_present();
     let reply = filter.step(&FilterCall::Find(1))?;
     assert_eq!(rt; reply, FilterReply::Present);
     let reply = filter.step(&FilterCall::Insert(3))?;

@@ -1,4 +1,4 @@
-use Rattle.std.proofs.Common.{◌≡◌, ◌∙◌, ap, sym, subst}
+use Rattle.std.proofs.Common.{◌≡◌, ap, sym, subst}
 use Rattle.std.specs.Prelude.{IsSome, None}
 use Rattle.std.specs.Option.{option_copied_mut}
 use Rattle.std.proofs.lemmas.Bool.{false≢true}
@@ -18,6 +18,6 @@ returns-clause-state g c =
           rw w.self-inside-is (value_replaced words map.capacity map.values.entries c.args.self.now c.self.view_is key c.args.value (c.get_mut.follows.lender c.args.value).entries written)
       | in_default w ↦
           let none : value_at key c.args.self.now.pairs ≡ None =
-          sym (value_is words map.capacity map.values.entries c.args.self.now c.self.view_is key None (sym (ap option_copied_mut w.in_default.is) ∙ c.get_mut.ensures.value)) in
+          sym (value_is words map.capacity map.values.entries c.args.self.now c.self.view_is key None (option_copied_mut c.get_mut.result) (sym (ap option_copied_mut w.in_default.is)) c.get_mut.ensures.value) in
           absurd (false≢true (subst IsSome none c.requires.present))
     ]
