@@ -9,7 +9,8 @@ use Rattle.std.specs.Ordering.{match_ordering, nat_cmp}
 use Rattle.std.specs.Cmp.Lexicographic.{slice_cmp}
 use Rattle.std.specs.Map.{lookup, set_value}
 use Rattle.std.specs.BTreeMap.{insert_entry, is_at}
-use Rattle.bcl_event.specs.Map.{Bounded, Pairs, value_at, with_pair, with_value, pairs_at}
+use Rattle.bcl_event.specs.Map.{Pairs, value_at, with_pair, with_value}
+use Rattle.bcl_event.specs.SeqMap.{Bounded, pairs_at}
 
 at_test : {A B : Type 0} (f : A → B) (test : Bool) (x y : A) → f (cond test x y) ≡ cond test (f x) (f y)
 at_test f true x y = refl

@@ -4,7 +4,7 @@ use Rattle.std.specs.Prelude.{min, Option, Some, None}
 use Rattle.bcl_words.specs.Numbers.{is_below}
 use Rattle.bcl_words.specs.NumberLaws.{one_passes}
 use Rattle.bcl_event.specs.Numbers.{number, added}
-use Rattle.bcl_event.specs.Map.{MakesSum}
+use Rattle.bcl_event.specs.SeqMap.{MakesSum}
 use Rattle.bcl_event.specs.Array.{lesser}
 
 pub sum_passes : (n : ℕ) (words : List ℕ) → is_below (2 ^ 64) (added n words) ≡ true

@@ -11,7 +11,7 @@ use Rattle.std.proofs.lemmas.Map.Lookups.{exact_bytes}
 use Rattle.std.proofs.lemmas.Bool.{false≢true}
 use Rattle.std.proofs.lemmas.Option.{none-some}
 use Rattle.bcl_event.specs.Map.{Pairs, value_at, with_pair, with_value}
-use Rattle.bcl_event.specs.MapLaws.{Stores}
+use Rattle.bcl_event.specs.Stored.{Stores}
 
 abbrev order : List ℕ → List ℕ → Ordering
 order = slice_cmp nat_cmp

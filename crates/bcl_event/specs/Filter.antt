@@ -1,11 +1,7 @@
 -- The filter: keys, each known by four marks.
 -- Its state is the list of the keys that were inserted.
-use Rattle.std.specs.Prelude.{◌≡◌, ℕ, ◌/◌, ◌%◌, ◌^◌, ◌==◌, List, [], ◌∷◌, Bool, ◌&&◌, ◌||◌, map, take, if◌then◌else◌, unwrap_or}
+use Rattle.std.specs.Prelude.{ℕ, ◌/◌, ◌%◌, ◌^◌, ◌==◌, List, [], ◌∷◌, Bool, ◌&&◌, map, take, if◌then◌else◌}
 use Rattle.std.specs.List.{list_all, list_any}
-use Rattle.std.specs.Int.{bit_at}
-use Rattle.std.specs.Ordering.{nat_cmp}
-use Rattle.std.specs.Map.{lookup}
-use Rattle.std.specs.BTreeMap.{is_at}
 use Rattle.bcl_words.specs.Hash.{hash_of}
 use Rattle.bcl_event.specs.declared.filter.FilterCall.{FilterCall}
 use Rattle.bcl_event.specs.declared.filter.FilterCall.TheVariants.{Insert, Find}
@@ -50,30 +46,3 @@ module _ {K : Type 0} (words : K → List ℕ) where
   abbrev pub filter_call : FilterCall K → FilterCall (List ℕ)
   filter_call (Insert key) = Insert (words key)
   filter_call (Find key) = Find (words key)
-
-abbrev pub IsInsert : {K : Type 0} → FilterCall K → Type 0
-IsInsert (Insert key) = Unit {0}
-IsInsert (Find key) = ⊥
-
--- the bits of each block that has some
-pub record Marked : Type 0 where
-  pub blocks : ℕ
-  pub bits : List (ℕ × ℕ)
-
-abbrev pub bits_at : ℕ → List (ℕ × ℕ) → ℕ
-bits_at block bits = unwrap_or (lookup (is_at (nat_cmp block)) bits) 0
-
-abbrev pub has_bit : ℕ → ℕ → Bool
-has_bit bits bit = bit_at bits bit == 1
-
--- what is answered to a key that has this hash
-abbrev pub answer_at : ℕ → Marked → FilterReply
-answer_at h it = presence (list_all (has_bit (bits_at (h % it.blocks) it.bits)) (four_bits h))
-
--- a filter has just the marks of these keys
-abbrev pub HoldsMarks : ℕ → Marked → List (List ℕ) → Type 0
-HoldsMarks width it keys = (mark : Mark) → has_bit (bits_at mark.block it.bits) mark.bit ≡ is_marked it.blocks width keys mark
-
--- a filter has the marks of a hash besides those that it had
-abbrev pub Marks : ℕ → Marked → Marked → Type 0
-Marks h old new = (mark : Mark) → has_bit (bits_at mark.block new.bits) mark.bit ≡ (((mark.block == h % old.blocks) && list_any (λ bit. mark.bit == bit) (four_bits h)) || has_bit (bits_at mark.block old.bits) mark.bit)

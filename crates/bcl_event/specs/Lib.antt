@@ -1,8 +1,11 @@
 pub mod History
 pub mod Numbers
 pub mod Map
-pub mod MapLaws
 pub mod Queue
 pub mod Array
 pub mod Filter
 pub mod Promises
+pub mod Stored
+pub mod SeqMap
+pub mod SeqQueue
+pub mod SeqFilter

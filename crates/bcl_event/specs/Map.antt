@@ -1,6 +1,6 @@
 -- The map: a value for each of at most so many keys.
 -- Its state is the list of its pairs in the order of their keys, and is read by `value_at` and its length.
-use Rattle.std.specs.Prelude.{◌≡◌, ℕ, ◌==◌, List, [], map, length, Bool, true, Option, Some, None, if◌then◌else◌}
+use Rattle.std.specs.Prelude.{ℕ, ◌==◌, List, length, Option, Some, None, if◌then◌else◌}
 use Rattle.std.specs.Ordering.{nat_cmp}
 use Rattle.std.specs.Cmp.Lexicographic.{slice_cmp}
 use Rattle.std.specs.Map.{lookup, set_value}
@@ -63,36 +63,3 @@ module _ {V : Type 0} (words_of_value : V → List ℕ) where
   map_reply Replaced = Replaced
   map_reply (Was n) = Was n
   map_reply Full = Full
-
--- where a call makes a number, its word is that of a value
-abbrev pub MakesSum : (List ℕ → Bool) → ℕ → Option (List ℕ) → Type 0
-MakesSum passes n None = Unit {0}
-MakesSum passes n (Some old) = passes (added n old) ≡ true
-
-abbrev pub MakesValues : (List ℕ → Bool) → Pairs → MapCall (List ℕ) (List ℕ) → Type 0
-MakesValues passes pairs (Find key) = Unit {0}
-MakesValues passes pairs (Insert key value) = Unit {0}
-MakesValues passes pairs (Merge key value) = Unit {0}
-MakesValues passes pairs (Add key n) = MakesSum passes n (value_at key pairs)
-
--- a map with its capacity
-pub record Bounded : Type 0 where
-  pub capacity : ℕ
-  pub pairs : Pairs
-
-abbrev pub new_map : ℕ → Bounded
-new_map capacity = record { capacity = capacity; pairs = [] }
-
-abbrev pub bounded : Bounded → MapReply (List ℕ) × Pairs → MapReply (List ℕ) × Bounded
-bounded it answer = (answer.0, record it { pairs = answer.1 })
-
-abbrev pub bounded_step : (List ℕ → List ℕ → List ℕ) → Bounded → MapCall (List ℕ) (List ℕ) → MapReply (List ℕ) × Bounded
-bounded_step op it call = bounded it (map_step it.capacity op it.pairs call)
-
--- a value is stored for a key that has none
-abbrev pub put_step : List ℕ → List ℕ → Bounded → MapReply (List ℕ) × Bounded
-put_step key value it = bounded it (stored it.capacity key value (λ old. value) it.pairs None)
-
--- pairs at the words of their values
-abbrev pub pairs_at : {V : Type 0} → (V → List ℕ) → List (List ℕ × V) → Pairs
-pairs_at words entries = map (λ e. (e.0, words e.1)) entries

@@ -1,6 +1,6 @@
 -- The queue: items that are taken in the order in which they were put.
 -- Its state is the list of its items, and how many were put and taken so far.
-use Rattle.std.specs.Prelude.{ℕ, ◌+◌, ◌^◌, ◌==◌, List, [], ◌∷◌, ◌++◌, length, slice_get, Bool, false, Option, Some, None, if◌then◌else◌}
+use Rattle.std.specs.Prelude.{ℕ, ◌+◌, ◌==◌, List, [], ◌∷◌, ◌++◌, length, Bool, false, Option, Some, None, if◌then◌else◌}
 use Rattle.bcl_event.specs.declared.queue.QueueCall.{QueueCall}
 use Rattle.bcl_event.specs.declared.queue.QueueCall.TheVariants.{Push, Pop}
 use Rattle.bcl_event.specs.declared.queue.QueueReply.{QueueReply}
@@ -38,22 +38,3 @@ module _ {T : Type 0} (words : T → List ℕ) where
   abbrev pub queue_call : QueueCall T → QueueCall (List ℕ)
   queue_call (Push item) = Push (words item)
   queue_call Pop = Pop
-
--- the item that a call takes
-abbrev pub taken_item : Queue → QueueCall (List ℕ) → Option (List ℕ)
-taken_item queue (Push item) = None
-taken_item queue Pop = slice_get queue.items 0
-
--- a queue with its capacity and its first ticket, whose tickets end at 2^62
-pub record Ticketed : Type 0 where
-  pub capacity : ℕ
-  pub first : ℕ
-  pub queue : Queue
-
-abbrev pub new_queue : ℕ → ℕ → Ticketed
-new_queue capacity first = record { capacity = capacity; first = first; queue = empty_queue }
-
-abbrev pub ticketed_step : Ticketed → QueueCall (List ℕ) → QueueReply × Ticketed
-ticketed_step it call =
-    let answer = queue_step it.capacity it.first (Some (2 ^ 62)) it.queue call in
-    (answer.0, record it { queue = answer.1 })

@@ -1,11 +1,12 @@
 //! What follows from the definitions of the sequential objects.
 
 ghost use Rattle.std.specs.Prelude.{◌≡◌, ℕ, ◌<◌, ◌^◌, List, ◌∷◌, IsSome, Some, None, true};
-ghost use Rattle.bcl_event.specs.Map.{Pairs, MakesValues, value_at, with_pair, with_value};
+ghost use Rattle.bcl_event.specs.Map.{Pairs, value_at, with_pair, with_value};
+ghost use Rattle.bcl_event.specs.SeqMap.{MakesValues};
 ghost use Rattle.bcl_event.specs.Array.{MakesItems};
 ghost use Rattle.bcl_event.specs.declared.map.MapCall.TheVariants.{Add};
 ghost use Rattle.bcl_event.specs.declared.array.ArrayCall.TheVariants.{FetchAdd, FetchMin};
-ghost use Rattle.bcl_event.specs.MapLaws.{Stores};
+ghost use Rattle.bcl_event.specs.Stored.{Stores};
 ghost use Rattle.bcl_event.specs.Filter.{is_present};
 ghost use Rattle.bcl_event.specs.Promises.{Promise, code, promise_of};
 

@@ -4,7 +4,8 @@ ghost use Rattle.std.specs.Prelude.{◌≡◌, ◌≤◌, ◌<◌, ◌%◌, ◌=
 ghost use Rattle.std.specs.List.{All, list_all, list_any};
 ghost use Rattle.bcl_words.specs.Words.{Fits};
 ghost use Rattle.bcl_words.specs.Hash.{hash_of};
-ghost use Rattle.bcl_event.specs.Filter.{HoldsMarks, IsInsert, Marks, filter_step, filter_call, answer_at, four_bits, bits_at, has_bit};
+ghost use Rattle.bcl_event.specs.Filter.{filter_step, filter_call, four_bits};
+ghost use Rattle.bcl_event.specs.SeqFilter.{HoldsMarks, IsInsert, Marks, answer_at, bits_at, has_bit};
 
 use crate::filter::{FilterCall, FilterReply};
 use bcl_words::{NoMemory, Object, hash};
@@ -23,7 +24,7 @@ pub struct SeqFilter<K: Object> {
 
 impl<K: Object> Model for SeqFilter<K> {
     ghost use Rattle.std.specs.Prelude.{◌≤◌};
-    ghost use Rattle.bcl_event.specs.Filter.{Marked};
+    ghost use Rattle.bcl_event.specs.SeqFilter.{Marked};
 
     ghost Value = { Marked };
 

@@ -6,7 +6,8 @@ ghost use Rattle.bcl_words.specs.Words.{Fits};
 ghost use Rattle.bcl_words.specs.Numbers.{one_word};
 ghost use Rattle.bcl_words.specs.Merges.{AnswersLaw};
 ghost use Rattle.bcl_event.specs.declared.map.MapReply.TheVariants.{New};
-ghost use Rattle.bcl_event.specs.Map.{map_call, map_reply, value_at, with_value, new_map, bounded_step, put_step, MakesValues};
+ghost use Rattle.bcl_event.specs.Map.{map_call, map_reply, value_at, with_value};
+ghost use Rattle.bcl_event.specs.SeqMap.{new_map, bounded_step, put_step, MakesValues};
 
 use crate::map::{MapCall, MapReply};
 use crate::numbers::{number_of, value_of};
@@ -25,7 +26,7 @@ pub struct SeqMap<K: Object, V: Object> {
 }
 
 impl<K: Object, V: Object> Model for SeqMap<K, V> {
-    ghost use Rattle.bcl_event.specs.Map.{Bounded, pairs_at};
+    ghost use Rattle.bcl_event.specs.SeqMap.{Bounded, pairs_at};
 
     ghost Value = { Bounded };
 

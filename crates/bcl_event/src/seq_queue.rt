@@ -4,7 +4,8 @@ ghost use Rattle.std.specs.Prelude.{◌≡◌, ◌+◌, ◌≤◌, ◌^◌, IfOk
 ghost use Rattle.std.specs.Option.{option_map};
 ghost use Rattle.bcl_event.specs.declared.queue.QueueCall.TheVariants.{Push, Pop};
 ghost use Rattle.bcl_event.specs.declared.queue.QueueReply.TheVariants.{Put};
-ghost use Rattle.bcl_event.specs.Queue.{queue_call, taken_item, new_queue, ticketed_step};
+ghost use Rattle.bcl_event.specs.Queue.{queue_call};
+ghost use Rattle.bcl_event.specs.SeqQueue.{taken_item, new_queue, ticketed_step};
 
 use crate::queue::{QueueCall, QueueReply};
 use bcl_words::{NoMemory, Object};
@@ -28,7 +29,7 @@ pub struct SeqQueue<T: Object> {
 
 impl<T: Object> Model for SeqQueue<T> {
     ghost use Rattle.std.specs.Prelude.{◌≡◌, ◌+◌, ◌≤◌, ◌^◌, map, length};
-    ghost use Rattle.bcl_event.specs.Queue.{Ticketed};
+    ghost use Rattle.bcl_event.specs.SeqQueue.{Ticketed};
 
     ghost Value = { Ticketed };
 

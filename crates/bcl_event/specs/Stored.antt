@@ -1,5 +1,5 @@
--- What it is to store a value.
--- The law that the definition of the map does so cites it.
+-- What it is that a value was stored for a key of a map.
+-- It is said by `value_at` and the length alone.
 use Rattle.std.specs.Prelude.{◌≡◌, ℕ, ◌+◌, List, length, Some}
 use Rattle.bcl_event.specs.Map.{Pairs, value_at}
 
