@@ -8,4 +8,5 @@ pub mod Promises
 pub mod Stored
 pub mod SeqMap
 pub mod SeqQueue
+pub mod InOrder
 pub mod SeqFilter

@@ -1,12 +1,13 @@
 //! What follows from the definitions of the sequential objects.
 
-ghost use Rattle.std.specs.Prelude.{◌≡◌, ℕ, ◌<◌, ◌^◌, List, ◌∷◌, IsSome, Some, None, true};
+ghost use Rattle.std.specs.Prelude.{◌≡◌, ℕ, ◌<◌, ◌^◌, List, ◌∷◌, IsSome, Option, Some, None, true};
 ghost use Rattle.bcl_event.specs.Map.{Pairs, value_at, with_pair, with_value};
 ghost use Rattle.bcl_event.specs.SeqMap.{MakesValues};
 ghost use Rattle.bcl_event.specs.Array.{MakesItems};
 ghost use Rattle.bcl_event.specs.declared.map.MapCall.TheVariants.{Add};
 ghost use Rattle.bcl_event.specs.declared.array.ArrayCall.TheVariants.{FetchAdd, FetchMin};
 ghost use Rattle.bcl_event.specs.Stored.{Stores};
+ghost use Rattle.bcl_event.specs.InOrder.{KeepsOrder};
 ghost use Rattle.bcl_event.specs.Filter.{is_present};
 ghost use Rattle.bcl_event.specs.Promises.{Promise, code, promise_of};
 
@@ -17,6 +18,12 @@ use bcl_words::Object;
 pub fn stored_values_are_found()
     ensures new { (pairs : Pairs) (key value : List ℕ) → value_at key pairs ≡ None → Stores key value pairs (with_pair key value pairs) 1 }
     ensures replaced { (pairs : Pairs) (key value : List ℕ) → IsSome (value_at key pairs) → Stores key value pairs (with_value key value pairs) 0 }
+{}
+
+/// The items that are taken from a queue, and then those that are left, are those that were put, in order. It does
+/// nothing, and its contract is what is proved.
+pub fn items_are_taken_in_order()
+    ensures { (capacity first : ℕ) (limit : Option ℕ) → KeepsOrder capacity first limit }
 {}
 
 /// A key that is inserted into a filter is present from then on. It does nothing, and its contract is what is proved.

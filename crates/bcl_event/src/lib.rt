@@ -30,7 +30,8 @@ pub use array::{ArrayCall, ArrayReply};
 pub use event::Event;
 pub use filter::{FilterCall, FilterReply};
 pub use laws::{
-    inserted_keys_are_present, numbers_make_numbers, numbers_name_promises, stored_values_are_found,
+    inserted_keys_are_present, items_are_taken_in_order, numbers_make_numbers,
+    numbers_name_promises, stored_values_are_found,
 };
 pub use map::{MapCall, MapReply};
 pub use queue::{QueueCall, QueueReply};

@@ -5,8 +5,8 @@ ghost use Rattle.std.specs.Prelude.{refl};
 
 use crate::{
     ArrayCall, ArrayReply, FilterCall, FilterReply, MapCall, MapReply, QueueCall, QueueReply,
-    SeqArray, SeqFilter, SeqMap, SeqQueue, inserted_keys_are_present, numbers_make_numbers,
-    numbers_name_promises, stored_values_are_found,
+    SeqArray, SeqFilter, SeqMap, SeqQueue, inserted_keys_are_present, items_are_taken_in_order,
+    numbers_make_numbers, numbers_name_promises, stored_values_are_found,
 };
 use bcl_words::MergeLaw;
 use std::test::Fail;
@@ -86,6 +86,7 @@ fn a_queue_is_full(rt: HostRuntime) -> Result<(), Fail> {
     assert_eq!(rt; answer, (QueueReply::Put(0), None));
     let answer = queue.step(&QueueCall::Push(2))?;
     assert_eq!(rt; answer, (QueueReply::Put(1), None));
+    items_are_taken_in_order();
     let answer = queue.step(&QueueCall::Push(3))?;
     assert_eq!(rt; answer, (QueueReply::Full, None));
     let answer = queue.step(&QueueCall::Pop)?;
