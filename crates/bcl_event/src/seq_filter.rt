@@ -110,7 +110,7 @@ fn hash_of_key<K: Object>(key: &K) -> u64
 }
 
 /// The four bits that a hash marks in its block.
-fn bits_of(h: u64) -> [u64; 4]
+pub(crate) fn bits_of(h: u64) -> [u64; 4]
     ensures { result ≡ four_bits h }
 {
     [

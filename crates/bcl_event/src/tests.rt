@@ -3,12 +3,13 @@
 ghost use Rattle.bcl_words.specs.Numbers.{one_word};
 ghost use Rattle.std.specs.Prelude.{refl};
 
+use crate::seq_filter::bits_of;
 use crate::{
     ArrayCall, ArrayReply, FilterCall, FilterReply, MapCall, MapReply, QueueCall, QueueReply,
     SeqArray, SeqFilter, SeqMap, SeqQueue, inserted_keys_are_present, items_are_taken_in_order,
     numbers_make_numbers, numbers_name_promises, stored_values_are_found,
 };
-use bcl_words::MergeLaw;
+use bcl_words::{MergeLaw, hash};
 use std::test::Fail;
 
 // The law by which any two numbers become 0.
@@ -104,6 +105,13 @@ fn an_array_counts(rt: HostRuntime) -> Result<(), Fail> {
     assert_eq!(rt; array.step(&ArrayCall::Read(0)), ArrayReply::Value(9));
     assert_eq!(rt; array.step(&ArrayCall::Read(1)), ArrayReply::Value(5));
     Ok(())
+}
+
+#[test]
+fn keys_have_their_bits(rt: HostRuntime) {
+    assert_eq!(rt; bits_of(hash(&[0])), [0, 0, 0, 0]);
+    assert_eq!(rt; bits_of(hash(&[1])), [11, 62, 37, 15]);
+    assert_eq!(rt; bits_of(hash(&[3])), [35, 59, 47, 46]);
 }
 
 #[test]
