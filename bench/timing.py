@@ -28,8 +28,8 @@ def fail(reason):
 
 
 def build():
-    """Builds the program, where it isn't built: no words ask for nothing, and end with status 2."""
-    if subprocess.run([BCL], stdin=subprocess.DEVNULL).returncode != 2:
+    """Builds the program, where it isn't built. On no input it writes nothing."""
+    if subprocess.run([BCL, "count", "1"], stdin=subprocess.DEVNULL).returncode:
         fail("./bcl is not built")
 
 

@@ -4,10 +4,13 @@
 //! what the law says.
 //!
 //! - `sum`: the sum modulo 2^64.
+//! - `stored_entry`: an entry as a table stores it, and what is stored once two more of its key have come.
 #![tactic(auto)]
 
+mod stored_entry;
 mod sum;
 #[cfg(test)]
 mod tests;
 
+pub use stored_entry::{StoredEntry, updated_entry};
 pub use sum::{Sum, wrapping_sum};

@@ -91,11 +91,13 @@ from_prefix p i n (x ∷ xs) ys found =
     ∙ from_prefix p (i + 1) n xs ys (sym (cond-false (p x) (Some i) (position_from p (i + 1) xs) no') ∙ found))
     (cases_Bool (p x))
 
+pub position-front : (p : List ℕ → Bool) (ls : List (List ℕ)) (n i : ℕ) → position p (take n ls) ≡ Some i → position p ls ≡ Some i
+position-front p ls n i found =
+    let front = take n ls in
+    let back = drop n ls in
+    ap (position p) (sym (take-append-drop n ls))
+    ∙ (position_from-zero p (front ++ back) ∙ from_prefix p 0 i front back (sym (position_from-zero p front) ∙ found))
+
 -- where no earlier line passes and this one does, it is the first
 pub position-first : (p : List ℕ → Bool) (ls : List (List ℕ)) (i : ℕ) → i < length ls → position p (take i ls) ≡ None → p (line_at ls i) ≡ true → position p ls ≡ Some i
-position-first p ls i h none passes =
-    let front = take (i + 1) ls in
-    let back = drop (i + 1) ls in
-    let here : position p front ≡ Some i = position-one p ls i h passes ∙ ap (λ o. Some (unwrap_or o i)) none in
-    ap (position p) (sym (take-append-drop (i + 1) ls))
-    ∙ (position_from-zero p (front ++ back) ∙ from_prefix p 0 i front back (sym (position_from-zero p front) ∙ here))
+position-first p ls i h none passes = position-front p ls (i + 1) i (position-one p ls i h passes ∙ ap (λ o. Some (unwrap_or o i)) none)

@@ -1,3 +1,4 @@
 pub mod Keys
 pub mod Walks
 pub mod Contigs
+pub mod Nexts

@@ -9,9 +9,9 @@ ghost use Rattle.kmer_text.specs.Nodes.{bad_node};
 ghost use Rattle.kmer_walk.specs.Keys.{first_place, first_conflict};
 ghost use Rattle.kmer_walk.specs.Contigs.{is_start, starts, contig, contigs, text_of, contig_text};
 
-use crate::next::NO_NEIGHBOUR;
+use crate::next::{NO_NEIGHBOUR, nexts_of};
 use crate::walk::contig_of;
-use crate::{Firsts, WalkFault, first_conflict, firsts_of};
+use crate::{Firsts, WalkFault, firsts_of};
 use bcl_words::NoMemory;
 use kmer_text::{Lines, node_of};
 use std::alloc::Global;
@@ -54,6 +54,7 @@ fn contigs_of(
     ensures too_long { IsErrOf result WalkFault.TooLong → 2 ^ 26 < length (text_of (map (contig k lines.now) (starts k lines.now))) }
     ensures no_conflict { (n : ℕ) → IsErrOf result (WalkFault.Conflict n) → ⊥ }
 {
+    let nexts = nexts_of(alloc, lines, k, firsts)?;
     let mut texts = Vec::new(alloc);
     let mut marks = vec![in alloc; 0u32; lines.count() as usize]?;
     let mut room = MAX_TEXT;
@@ -64,7 +65,7 @@ fn contigs_of(
         if room == 0 {
             return Err(WalkFault::TooLong);
         }
-        let text = contig_of(alloc, lines, k, firsts, &mut marks, place, room - 1)?;
+        let text = contig_of(alloc, lines, k, &nexts, &mut marks, place, room - 1)?;
         room -= text.len() + 1;
         texts.push(text)?;
     }
@@ -83,9 +84,6 @@ pub fn plain_contigs(alloc: Global, lines: &Lines, k: u32) -> Result<Vec<Vec<u8>
     ensures too_long { IsErrOf result WalkFault.TooLong → (first_conflict k lines.now ≡ None) × (2 ^ 26 < length (contig_text k lines.now)) }
 {
     let firsts = firsts_of(alloc, lines, k)?;
-    if let Some(place) = first_conflict(lines, k, &firsts) {
-        return Err(WalkFault::Conflict(place as u64 + 1));
-    }
     let mut texts = contigs_of(alloc, lines, k, &firsts)?;
     texts.sort_unstable();
     Ok(texts)

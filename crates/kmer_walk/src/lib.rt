@@ -3,16 +3,14 @@
 //! Its one contract for the layer above: the contigs of the lines, in byte order; or the first line whose extensions
 //! differ from those of the first line of its key; or that the contigs are too long.
 //!
-//! - `firsts`: the first line of each key.
-//! - `conflict`: the first line whose extensions differ from those of the first line of its key.
-//! - `next`: the line behind a line.
+//! - `firsts`: the first line of each key, and the first line that contradicts one.
+//! - `next`: the line behind each line.
 //! - `walk`: the contig of a start.
 //! - `contigs`: the contigs of all starts, in byte order.
 //! - `fault`: why lines of nodes have no contigs.
 //! - `laws`: what the definitions mean, in other words than their own.
 #![tactic(auto)]
 
-mod conflict;
 mod contigs;
 mod fault;
 mod firsts;
@@ -22,7 +20,6 @@ mod next;
 mod tests;
 mod walk;
 
-pub use conflict::first_conflict;
 pub use contigs::{MAX_TEXT, plain_contigs, text_of};
 pub use fault::WalkFault;
 pub use firsts::{Firsts, firsts_of};

@@ -2,39 +2,39 @@
 
 ghost use Rattle.kmer_text.specs.Kmers.{IsKmerLength};
 
-use crate::{first_conflict, firsts_of, plain_contigs, text_of};
+use crate::{WalkFault, firsts_of, plain_contigs, text_of};
 use kmer_text::{Kmer, Lines, check_nodes};
 use std::alloc::Global;
 use std::test::Fail;
 
-/// The place of the first line of `ACG`, and that of the first conflict.
-fn looked_up(alloc: Global, text: &[u8]) -> Result<(Option<u32>, Option<u32>), Fail> {
+/// The place of the first line of `ACG`, or why there is none.
+fn first_of(alloc: Global, text: &[u8]) -> Result<Result<Option<u32>, WalkFault>, Fail> {
     let lines = Lines::cut(alloc, text.to_vec(alloc)?)?;
     check_nodes(&lines, 3)?;
-    let firsts = firsts_of(alloc, &lines, 3)?;
-    let place = firsts.get(&Kmer { bits: 6 }).copied();
-    Ok((place, first_conflict(&lines, 3, &firsts)))
+    match firsts_of(alloc, &lines, 3) {
+        Ok(firsts) => Ok(Ok(firsts.get(&Kmer { bits: 6 }).copied())),
+        Err(fault) => Ok(Err(fault)),
+    }
 }
 
 #[test]
 fn the_first_line_of_a_key_is_its_node(rt: HostRuntime) -> Result<(), Fail> {
     let cases = [
-        (b"ACG\tFT\nACG\tFT\nACG\tFA\n".as_slice(), Some(0), Some(2)),
-        (b"ACG\tFT\nACG\tFT\n", Some(0), None),
+        (
+            b"ACG\tFT\nACG\tFT\nACG\tFA\n".as_slice(),
+            Err(WalkFault::Conflict(3)),
+        ),
+        (b"ACG\tFT\nACG\tFT\n", Ok(Some(0))),
         (
             b"\nCGT\tAA\nACG\tCT\n\nACG\tGT\nCGT\tAC\n",
-            Some(2),
-            Some(4),
+            Err(WalkFault::Conflict(5)),
         ),
-        (b"CGT\tAA\nGTA\tCF\n", None, None),
-        (b"", None, None),
+        (b"\nCGT\tAA\nACG\tCT\n\nACG\tCT\n", Ok(Some(2))),
+        (b"CGT\tAA\nGTA\tCF\n", Ok(None)),
+        (b"", Ok(None)),
     ];
-    for (text, place, conflict) in cases {
-        assert_eq!(rt;
-            looked_up(rt.alloc(), text)?,
-            (place, conflict),
-            "in {text:?}"
-        );
+    for (text, first) in cases {
+        assert_eq!(rt; first_of(rt.alloc(), text)?, first, "in {text:?}");
     }
     Ok(())
 }

@@ -1,15 +1,12 @@
 //! The contig of a start.
 
 ghost use Rattle.std.specs.Prelude.{◌≡◌, ◌≢◌, ℕ, ◌+◌, ◌^◌, ◌<◌, ◌≤◌, None, length, All, IfOk, IsErrOf};
-ghost use Rattle.std.specs.Ordering.{nat_cmp};
-ghost use Rattle.std.specs.BTreeMap.{get};
-ghost use Rattle.kmer_text.specs.Kmers.{IsKmerLength, word_of};
+ghost use Rattle.kmer_text.specs.Kmers.{IsKmerLength};
 ghost use Rattle.kmer_text.specs.Nodes.{bad_node, line_at};
-ghost use Rattle.kmer_walk.specs.Keys.{first_place};
+ghost use Rattle.kmer_walk.specs.Nexts.{KnowsNexts};
 ghost use Rattle.kmer_walk.specs.Contigs.{contig};
 
-use crate::next::next_of;
-use crate::{Firsts, WalkFault};
+use crate::WalkFault;
 use kmer_text::Lines;
 use std::alloc::Global;
 
@@ -21,14 +18,14 @@ pub(crate) fn contig_of(
     alloc: Global,
     lines: &Lines,
     k: u32,
-    firsts: &Firsts,
+    nexts: &[Option<u32>],
     marks: &mut [u32],
     start: u32,
     most: usize,
 ) -> Result<Vec<u8>, WalkFault>
     requires k { IsKmerLength k }
     requires good { bad_node k lines.now ≡ None }
-    requires firsts { (key : ℕ) → key < 4 ^ k → get nat_cmp firsts.now key ≡ first_place k lines.now (word_of k key) }
+    requires nexts { KnowsNexts k lines.now nexts.now }
     requires few { length lines.now ≤ 2 ^ 22 }
     requires start { start < length lines.now }
     requires some { length (line_at lines.now start) ≢ 0 }
@@ -48,7 +45,7 @@ pub(crate) fn contig_of(
     let mut text = Vec::from_slice(alloc, &lines.line(start)[..k as usize])?;
     let mut place = start;
     marks[place as usize] = mark;
-    while let Some(next) = next_of(lines, k, firsts, place) {
+    while let Some(next) = nexts[place as usize] {
         if marks[next as usize] == mark {
             break;
         }

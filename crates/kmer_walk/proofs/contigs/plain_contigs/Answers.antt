@@ -1,4 +1,4 @@
-use Rattle.std.proofs.Common.{◌∙◌, map, arith, sym, ap}
+use Rattle.std.proofs.Common.{◌∙◌, map, arith, ap}
 use Rattle.std.proofs.lemmas.Result.{err_from_is_err_and}
 use Rattle.kmer_walk.specs.Contigs.{starts, contig, contigs, in_byte_order}
 use Rattle.kmer_walk.proofs.ByteOrder.{sorted_texts, bytes-sorted}
@@ -9,7 +9,7 @@ unfolding contigs
 returns-in_err-texts-clause-too_long c e =
     let p = err_from_is_err_and c.from_residual-in_err-texts.result c.from_residual-in_err-texts.ensures.1 in
     let long = c.in_err-texts.ensures.too_long (rw (p.1, p.2) at e) in
-    (sym c.in_default.ensures, omega (arith, long, bytes-sorted (map (contig c.args.k c.args.lines.now) (starts c.args.k c.args.lines.now))))
+    (c.in_ok-firsts.ensures.consistent, omega (arith, long, bytes-sorted (map (contig c.args.k c.args.lines.now) (starts c.args.k c.args.lines.now))))
 
 pub returns-clause-texts : goal.returns-clause-texts
 unfolding contigs

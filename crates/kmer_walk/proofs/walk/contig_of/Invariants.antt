@@ -5,8 +5,8 @@ use Rattle.kmer_walk.proofs.Walking.{Walking}
 use Rattle.kmer_walk.proofs.walk.contig_of.Given as goal
 
 -- the walk is on its way, with as many steps as letters behind the key
-abbrev pub invariant-loop-next : goal.invariant-loop-next
-invariant-loop-next l = record {
+abbrev pub invariant-loop-place : goal.invariant-loop-place
+invariant-loop-place l = record {
   walking : Walking l.k l.lines l.start (length l.text.items - l.k) l.place l.text.items l.marks;
   key : l.k ≤ length l.text.items;
   short : length l.text.items ≤ l.most;
@@ -15,5 +15,5 @@ invariant-loop-next l = record {
   later : All (λ mark. mark ≤ l.start + 1) l.marks;
 }
 
-abbrev pub decreases-loop-next : goal.decreases-loop-next
-decreases-loop-next l = l.most - length l.text.items
+abbrev pub decreases-loop-place : goal.decreases-loop-place
+decreases-loop-place l = l.most - length l.text.items
