@@ -8,7 +8,7 @@ ghost use Rattle.bcl_event.specs.Numbers.{number};
 use bcl_words::Object;
 
 /// The number of a value.
-pub fn number_of<T: Object>(value: &T) -> u64
+pub(crate) fn number_of<T: Object>(value: &T) -> u64
     requires fits { Fits T.WORDS }
     ensures { result ≡ number (T.words value.now) }
 {
@@ -16,7 +16,7 @@ pub fn number_of<T: Object>(value: &T) -> u64
 }
 
 /// The value that has a number for its one word.
-pub fn value_of<T: Object>(n: u64) -> T
+pub(crate) fn value_of<T: Object>(n: u64) -> T
     requires fits { Fits T.WORDS }
     requires value { T.passes (one_word n) ≡ true }
     ensures { T.words result ≡ one_word n }

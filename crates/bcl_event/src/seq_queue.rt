@@ -13,8 +13,8 @@ use std::alloc::Global;
 use std::collections::VecDeque;
 use std::marker::Model;
 
-/// The ticket at which a queue is worn.
-const LAST_TICKET: u64 = 1 << 62;
+/// No ticket is given from this number on.
+const TICKET_LIMIT: u64 = 1 << 62;
 
 /// A queue of items of one type, which answers as its definition says. Its tickets end at 2^62. A contract sees its
 /// capacity, its first ticket, and of the queue the words of its items and how many were put and taken.
@@ -77,7 +77,7 @@ impl<T: Object> SeqQueue<T> {
         ensures no_memory { OnErr result ((ticketed_step self.old (Push (T.words item))).0 ≡ Put (self.old.first + self.old.queue.puts)) }
     {
         let ticket = self.first + self.puts;
-        if ticket == LAST_TICKET {
+        if ticket == TICKET_LIMIT {
             return Ok(QueueReply::Worn);
         }
         if self.items.len() == self.capacity as usize {
