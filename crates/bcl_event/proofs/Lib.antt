@@ -1,0 +1,7 @@
+mod Lists
+mod Entries
+mod Bits
+mod Presence
+mod Orders
+pub mod Values
+mod NumbersPass

@@ -1,0 +1,12 @@
+pub mod History
+pub mod Numbers
+pub mod Map
+pub mod Queue
+pub mod Array
+pub mod Filter
+pub mod Promises
+pub mod Stored
+pub mod SeqMap
+pub mod SeqQueue
+pub mod InOrder
+pub mod SeqFilter
