@@ -1,19 +1,31 @@
-//! Supersteps, and the promises under which ranks share a container.
-//!
-//! Its one contract for the layers above: a superstep runs each rank's part once, and each rank's old and new value
-//! meet what the part promises.
-//!
-//! - `promise`: which calls may run side by side. Nine of them, each with a number.
-//! - `gate`: what each rank passes as it enters a superstep.
-//! - `kit`: a rank's part, and the superstep that runs them all.
+//! Phases.
 #![tactic(auto)]
 
+mod alone;
+mod begin;
+mod end;
 mod gate;
+mod home;
 mod kit;
+mod lead;
+mod learns;
+mod pass;
+mod phased;
 mod promise;
+mod refused;
+mod steps;
 #[cfg(test)]
 mod tests;
+mod told;
+mod view;
 
 pub use gate::{Always, Gate};
+pub use home::Home;
 pub use kit::{Kit, superstep};
+pub use lead::Lead;
+pub use learns::Learns;
+pub use pass::Pass;
+pub use phased::{Grants, Phased};
 pub use promise::{Add, Any, Find, FindInsert, Own, Pop, Promise, Push, PushPop, Read};
+pub use refused::Refused;
+pub use view::{Role, View};
