@@ -1,22 +1,22 @@
 -- Each step of a pass keeps the rule, whatever the container.
-use Rattle.std.proofs.Common.{◌≡◌, ◌≢◌, ℕ, zero, suc, ◌+◌, ◌<◌, ◌≤◌, List, [], ◌∷◌, ◌++◌, length, slice_index, slice_set, set, refl, sym, ap, ◌∙◌, subst, ⊎_elim, arith, length-set, Some}
+use Rattle.std.proofs.Common.{◌≡◌, ◌≢◌, ℕ, zero, suc, ◌+◌, ◌≤◌, List, [], ◌∷◌, ◌++◌, slice_index, slice_set, set, refl, sym, ap, ◌∙◌, subst, ⊎_elim, arith, length-set, Some}
 use Rattle.std.specs.List.{All}
 use Rattle.std.proofs.lemmas.List.Elements.{All-nil, All-append}
 use mathlib.Core.Option as plain
 use mathlib.Core.Option.{some-injective, some-ne-none}
 use mathlib.Core.List.{IsPrefix, append-nil, append_assoc, append_cancel_left}
-use base.Growing.{prefix_refl, prefix_trans}
+use base.Growing.{prefix_trans}
 use lib.ListN.{get_elem?}
 use Rattle.atomic_table.specs.Table.{State}
 use Rattle.atomic_table.proofs.Lists.{at_set, set_else}
 use Rattle.bcl_event.specs.declared.event.Event.{Event}
-use Rattle.bcl_event.specs.History.{event, of, events, state_by, state_after, IsLegal}
+use Rattle.bcl_event.specs.History.{of, events, state_after, IsLegal}
 use Rattle.bcl_segment.specs.Steps as segment
 use Rattle.bcl_phase.specs.declared.view.View.{View}
 use Rattle.bcl_phase.specs.declared.view.Role.{Role}
 use Rattle.bcl_phase.specs.declared.view.Role.TheVariants.{Home, Pass, Spent}
-use Rattle.bcl_phase.specs.Views.{Tick, seen_by, opened, moved}
-use Rattle.bcl_phase.specs.Rule.{IsLive, IsBack, IsPermitted, Kept, Moves}
+use Rattle.bcl_phase.specs.Views.{Tick, opened, moved}
+use Rattle.bcl_phase.specs.Rule.{IsLive, IsPermitted, Kept, Moves}
 use Rattle.bcl_phase.specs.Told.{Took, Told}
 use Rattle.bcl_phase.proofs.Prefixes.{prefix_more, all_front, of-append, of_seen, seen_later, seen_within, since_then, after-append, legal-append, legal_prefix, legal_events, after_events, own_events, other_events, all_events}
 

@@ -1,6 +1,6 @@
 -- Beginnings of a list, and what a history tells of a rank.
 use Rattle.std.proofs.Common.{◌≡◌, ◌≢◌, ℕ, eqb, List, [], ◌∷◌, ◌++◌, ◌<◌, cond, refl, sym, ap, ◌∙◌, subst, arith}
-use Rattle.std.specs.List.{filter, All}
+use Rattle.std.specs.List.{All}
 use Rattle.std.proofs.lemmas.List.Elements.{filter-append, All-nil, All-cons, All-head, All-tail}
 use Rattle.std.proofs.lemmas.Bool.{eq-eqb, ne_eqb}
 use mathlib.Core.List.{IsPrefix, append-nil, append_assoc, append_cancel_left, cons-ne-nil, head-eq_of_cons-eq, tail-eq_of_cons-eq}

@@ -1,5 +1,5 @@
 -- What a loop over passes has taken back, and what it has dealt.
-use Rattle.std.proofs.Common.{◌≡◌, ℕ, ◌+◌, List, [], ◌∷◌, ◌++◌, map, length, refl, sym, ap, ◌∙◌, subst, ⊎_elim, arith, Some}
+use Rattle.std.proofs.Common.{◌≡◌, ℕ, ◌+◌, List, [], ◌∷◌, ◌++◌, map, length, refl, sym, ap, ◌∙◌, subst, ⊎_elim, arith, Some, Result, Ok, Err, IfOk, IfErr}
 use mathlib.Core.Option.{some}
 use mathlib.Core.List.{IsPrefix, map-append, append_assoc, append-nil}
 use lib.ListN.{get_elem?}
@@ -71,3 +71,17 @@ module _ {C A X K T : Type 0} (ranks : K → ℕ) (start : K → T) (next : K �
     where
       now : Ended ranks start next permits k v.promise v.start v.seen
       now = record { legal = e.legal; named = e.named; late = e.late; since = e.since; permitted = e.permitted; home = e.own }
+
+-- what a call that may fail says of its result
+module _ {Y F : Type 0} where
+  pub if_ok : (r : Result Y F) (P Q : Y → Type 0) → IfOk r P → ((y : Y) → P y → Q y) → IfOk r Q
+  if_ok (Ok y) P Q p goes = goes y p
+  if_ok (Err f) P Q p goes = tt
+
+  pub if_both : (r : Result Y F) (P Q S : Y → Type 0) → IfOk r P → IfOk r Q → ((y : Y) → P y → Q y → S y) → IfOk r S
+  if_both (Ok y) P Q S p q goes = goes y p q
+  if_both (Err f) P Q S p q goes = tt
+
+  pub if_err : (r : Result Y F) (P Q : F → Type 0) → IfErr r P → ((f : F) → P f → Q f) → IfErr r Q
+  if_err (Ok y) P Q p goes = tt
+  if_err (Err f) P Q p goes = goes f p

@@ -3,4 +3,5 @@ pub mod Rule
 pub mod Told
 pub mod Seats
 pub mod Phases
+pub mod Stands
 pub mod Parts

@@ -70,3 +70,6 @@ IsSameHome old new = (home_id new ≡ home_id old) × (home_key new ≡ home_key
 
 abbrev pub IsLeadOf : {R C A T X K : Type 0} {g : _} {h : _} → Lead R C A T X K g → Home R C A T X K h → Type 0
 IsLeadOf lead home = (lead_id lead ≡ home_id home) × (lead_key lead ≡ home_key home) × (lead_layout lead ≡ home_layout home) × (lead_heads lead ≡ home_heads home)
+
+abbrev pub IsSameLead : {R C A T X K : Type 0} {g : _} {h : _} → Lead R C A T X K g → Lead R C A T X K h → Type 0
+IsSameLead old new = (lead_id new ≡ lead_id old) × (lead_key new ≡ lead_key old) × (lead_layout new ≡ lead_layout old) × (lead_heads new ≡ lead_heads old)

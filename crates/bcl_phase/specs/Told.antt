@@ -1,6 +1,6 @@
 -- What a step tells the seat that makes it, of its view before and after.
 -- Each step tells how the view has changed; and of the history as it was, the calls that the step makes there.
-use Rattle.std.specs.Prelude.{◌≡◌, ℕ, ◌≤◌, List, ◌++◌, Some}
+use Rattle.std.specs.Prelude.{◌≡◌, ℕ, ◌≤◌, List, ◌++◌}
 use Rattle.std.specs.List.{All}
 use mathlib.Core.Option as plain
 use mathlib.Core.List.{IsPrefix}

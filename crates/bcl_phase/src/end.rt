@@ -8,7 +8,7 @@ ghost use Rattle.bcl_phase.specs.Parts.{home_view, home_key, home_layout, home_h
 
 use crate::home::Owned;
 use crate::told::{Takes, Turns};
-use crate::{Home, Lead, Pass, Phased, Promise};
+use crate::{Grants, Home, Lead, Pass, Phased, Promise};
 
 impl<R: Phased> Lead<R> {
     /// Ends the phase, and consumes its passes. The home has seen the whole history.
@@ -17,6 +17,8 @@ impl<R: Phased> Lead<R> {
     ///
     /// Condition: the passes are all those of this lead, rank i at place i, and no call of theirs is in flight.
     pub fn end<P: Promise>(self, mut passes: Vec<Pass<R, P>>) -> Home<R>
+    where
+        R: Grants<P>,
         requires all { length passes.items ≡ (lead_layout self).ranks }
         requires of { (i : ℕ) (p : _) → get_elem? passes.items i ≡ some p → IsOf p self }
         requires ranks { (i : ℕ) (p : _) → get_elem? passes.items i ≡ some p → (pass_view p).rank ≡ i }

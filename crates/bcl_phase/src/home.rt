@@ -36,5 +36,5 @@ impl<R: Phased> Owned<R> {
 #[derive(Drop)]
 pub struct Home<R: Phased> {
     pub(crate) owned: Owned<R>,
-    ghost alone: { (view_of owned.seat).passes ≡ 0 },
+    pub ghost alone: { (view_of owned.seat).passes ≡ 0 },
 }

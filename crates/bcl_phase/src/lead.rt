@@ -10,6 +10,6 @@ use crate::home::Owned;
 #[derive(Drop)]
 pub struct Lead<R: Phased> {
     pub(crate) owned: Owned<R>,
-    ghost shared: { (view_of owned.seat).passes ≡ owned.layout.ranks },
-    ghost none_back: { (view_of owned.seat).back ≡ [] },
+    pub ghost shared: { (view_of owned.seat).passes ≡ owned.layout.ranks },
+    pub ghost none_back: { (view_of owned.seat).back ≡ [] },
 }

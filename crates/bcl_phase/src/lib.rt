@@ -17,6 +17,7 @@ mod steps;
 #[cfg(test)]
 mod tests;
 mod told;
+mod turn;
 mod view;
 
 pub use gate::{Always, Gate};

@@ -1,6 +1,6 @@
 //! One rank's part in a phase.
 
-ghost use Rattle.std.specs.Prelude.{◌≡◌};
+ghost use Rattle.std.specs.Prelude.{◌≡◌, ◌<◌};
 ghost use Rattle.bcl_phase.specs.Seats.{IsPassSeat};
 
 use crate::{Phased, Promise};
@@ -14,7 +14,8 @@ pub struct Pass<R: Phased, P: Promise> {
     pub(crate) rank: u32,
     pub(crate) layout: Layout,
     promise: PhantomData<P>,
-    ghost pass: { IsPassSeat P.CODE rank seat },
+    pub ghost pass: { IsPassSeat P.CODE rank seat },
+    pub ghost within: { rank < layout.ranks },
 }
 
 impl<R: Phased, P: Promise> Pass<R, P> {
@@ -22,6 +23,7 @@ impl<R: Phased, P: Promise> Pass<R, P> {
 
     pub(crate) fn seated(seat: Seat<R>, rank: u32, layout: Layout) -> Pass<R, P>
         requires pass { IsPassSeat P.CODE rank seat }
+        requires within { rank < layout.ranks }
         ensures seat { result.seat ≡ seat }
         ensures layout { result.layout ≡ layout }
     {
@@ -42,6 +44,7 @@ impl<R: Phased, P: Promise> Pass<R, P> {
     /// The number of this rank, from 0.
     pub fn rank(&self) -> u32
         ensures rank { result ≡ (pass_view self.now).rank }
+        ensures within { result < (pass_layout self.now).ranks }
     {
         self.rank
     }

@@ -1,4 +1,4 @@
-use Rattle.std.proofs.Common.{◌≡◌, ℕ, ◌+◌, length, [], ◌∷◌, refl, sym, ap, ◌∙◌, arith, length-append, le_trans, subst, ◌<◌}
+use Rattle.std.proofs.Common.{◌≡◌, ℕ, ◌+◌, length, [], ◌∷◌, refl, sym, ap, ◌∙◌, arith, length-append, le_trans}
 use Rattle.bcl_segment.specs.declared.layout.Layout.{Layout}
 use Rattle.bcl_segment.specs.Parts.{table_of, key_of, view_of, number_of}
 use Rattle.bcl_phase.specs.Phases.{begun}

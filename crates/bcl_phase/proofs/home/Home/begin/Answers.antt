@@ -1,5 +1,5 @@
-use Rattle.std.proofs.Common.{◌≡◌, ◌∙◌, sym, ap}
-use Rattle.bcl_segment.specs.Parts.{number_of, key_of, view_of, word_of}
+use Rattle.std.proofs.Common.{◌∙◌}
+use Rattle.bcl_segment.specs.Parts.{number_of, key_of, view_of}
 use Rattle.bcl_phase.specs.Phases.{begun}
 use Rattle.bcl_phase.proofs.Homes.{turns}
 use Rattle.bcl_phase.proofs.home.Home.begin.Goals as goal

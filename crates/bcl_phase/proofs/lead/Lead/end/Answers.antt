@@ -1,8 +1,6 @@
-use Rattle.std.proofs.Common.{rules, ◌≡◌, ◌+◌, length, [], ◌∷◌, refl, sym, ap, ◌∙◌, subst, arith, length-append}
-use mathlib.Core.List.{IsPrefix}
-use Rattle.bcl_event.specs.History.{of}
+use Rattle.std.proofs.Common.{rules, ◌≡◌, ◌+◌, length, [], ◌∷◌, refl, sym, ap, ◌∙◌, arith, length-append}
 use Rattle.bcl_segment.specs.declared.layout.Layout.{Layout}
-use Rattle.bcl_segment.specs.Parts.{table_of, number_of, key_of, view_of, word_of}
+use Rattle.bcl_segment.specs.Parts.{table_of, number_of, key_of, view_of}
 use Rattle.bcl_phase.specs.Parts.{pass_view}
 use Rattle.bcl_phase.proofs.Homes.{joins, turns}
 use Rattle.bcl_phase.proofs.Returns.{told, none_taken, ended_of, returned_of, last_placed, rest_placed, told_more, came_back}

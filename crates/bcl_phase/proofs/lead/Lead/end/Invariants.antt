@@ -1,7 +1,7 @@
 use Rattle.std.proofs.Common.{◌≡◌, ℕ, ◌++◌, length}
 use mathlib.Core.Option.{some}
 use lib.ListN.{get_elem?}
-use Rattle.bcl_segment.specs.Parts.{table_of, id_of, key_of, view_of}
+use Rattle.bcl_segment.specs.Parts.{table_of, id_of, view_of}
 use Rattle.bcl_phase.specs.Seats.{IsHomeSeat}
 use Rattle.bcl_phase.specs.Parts.{pass_view}
 use Rattle.bcl_phase.proofs.Returns.{over, told}

@@ -11,7 +11,7 @@ fetch_or-requires-clause-rule g c = let it = c.args.self.now in let segments = c
 
 pub invariant_of-self : goal.invariant_of-self
 invariant_of-self g c = let took = (c.fetch_or.ensures.told _ c.requires.of.1).0 in let pass = c.args.self.now.pass in
-    record { pass = (took.same_role ∙ pass.0, took.same_promise ∙ pass.1, took.same_rank ∙ pass.2) }
+    record { pass = (took.same_role ∙ pass.0, took.same_promise ∙ pass.1, took.same_rank ∙ pass.2); within = c.args.self.now.within }
 
 pub returns-clause-told : goal.returns-clause-told
 returns-clause-told g c = (c.fetch_or.ensures.told _ c.requires.of.1).1
