@@ -6,7 +6,6 @@ use atomic_table::Seat;
 use std::marker::Model;
 
 /// A seat that a `&` shows nothing of. Steps need the seat itself, so threads may share this.
-#[derive(Drop)]
 pub(crate) struct Still<S, V> {
     pub(crate) seat: Seat<S, V>,
 }
@@ -27,6 +26,12 @@ impl<S, V> Still<S, V> {
     {
         let Still { seat } = self;
         seat
+    }
+}
+
+impl<S, V> Drop for Still<S, V> {
+    fn drop(self) {
+        drop(self.into_seat());
     }
 }
 
