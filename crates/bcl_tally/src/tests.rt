@@ -5,8 +5,8 @@ ghost use Rattle.bcl_phase.specs.Parts.{lead_key, lead_layout, lead_heads, pass_
 ghost use Rattle.bcl_tally.specs.declared.tally.Note.TheVariants.{Rest};
 ghost use Rattle.bcl_tally.specs.Calls.{IsShaped};
 
-use crate::{Tally, add, add_often, clear, open, read, swap, touch};
-use bcl_phase::{Any, Lead, Own, Pass};
+use crate::{Adder, Tally, add, add_often, clear, open, read, swap, touch};
+use bcl_phase::{Always, Any, Kit, Lead, Own, Pass, superstep};
 use bcl_words::NoMemory;
 use std::alloc::AllocError;
 use std::test::Fail;
@@ -55,6 +55,7 @@ fn swaps(
 #[test]
 fn a_phase_turns_into_the_next_and_ends(rt: HostRuntime) -> Result<(), Fail> {
     let home = open(rt.alloc(), 1)?;
+    assert_eq!(rt; home.layout().ranks, 1);
     let Ok((lead, passes)) = home.begin::<Any>(rt.alloc()) else {
         return Err(NoMemory.into());
     };
@@ -69,5 +70,36 @@ fn a_phase_turns_into_the_next_and_ends(rt: HostRuntime) -> Result<(), Fail> {
     assert_eq!(rt; read(&mut home, 0), 7);
     clear(&mut home, 0, 3);
     assert_eq!(rt; read(&mut home, 0), 3);
+    Ok(())
+}
+
+// Each of two ranks has a kit, and both add side by side.
+#[test]
+fn two_ranks_add_side_by_side(rt: HostRuntime) -> Result<(), Fail> {
+    let home = open(rt.alloc(), 2)?;
+    let Ok((lead, mut passes)) = home.begin::<Any>(rt.alloc()) else {
+        return Err(NoMemory.into());
+    };
+    let Some(second) = passes.pop() else {
+        unreachable!()
+    };
+    let Some(first) = passes.pop() else {
+        unreachable!()
+    };
+    let mut kits = [
+        Adder {
+            lead: &lead,
+            pass: first,
+            n: 5,
+        },
+        Adder {
+            lead: &lead,
+            pass: second,
+            n: 5,
+        },
+    ];
+    superstep(&rt, &mut kits, &Always);
+    assert_eq!(rt; kits[1].rank(), 1);
+    assert_eq!(rt; kits[1].pass.layout().per_rank, 1);
     Ok(())
 }

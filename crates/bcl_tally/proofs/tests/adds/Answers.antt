@@ -1,4 +1,4 @@
-use Rattle.std.proofs.Common.{◌≡◌, ℕ, length, [], ◌∷◌, ap, ◌∙◌}
+use Rattle.std.proofs.Common.{length, ap, ◌∙◌}
 use Rattle.bcl_tally.proofs.Pairs.{one_left, one_again, each_of_one}
 use Rattle.bcl_tally.proofs.tests.adds.Goals as goal
 
