@@ -1,0 +1,62 @@
+//! Phases of passes over segments: what every container stands on.
+//!
+//! A container is a sequential object whose state lies in words that ranks share. Its history is the list of the calls
+//! made on it, in the order in which they took effect. One caller has it alone, as a [`Home`]. To share it, the home
+//! begins a phase under a [`Promise`], which says what calls the ranks will make (Brock, Buluç, Yelick, ICPP 2019): each
+//! rank gets a [`Pass`], and a [`Lead`] that all ranks share ends the phase. Between two phases nobody holds a pass, so
+//! the end of one is a barrier.
+//!
+//!     let (lead, passes) = home.begin::<Any>(alloc)?;           // a pass for each rank
+//!     superstep(&rt, &mut kits, &Always);                       // each rank's part, side by side
+//!     let (lead, passes) = lead.turn::<Any, Own>(alloc, passes)?;
+//!     let home = lead.end::<Own>(passes);                       // the home has seen the whole history
+//!
+//! Its one contract for the layers above: whatever the container and the order of steps, there is one history, legal for
+//! the sequential object. Each pass has seen a front of it, and its own rank's events there are those of its calls. What
+//! a container shows for that is small: of each step, what its own words do, against the state and its own note
+//! (`Moves`). The rest is proved here, once.
+//!
+//! In reading order:
+//!
+//! - `view`: what a seat knows. `specs/Views.antt` says how views change.
+//! - `phased`: what a container says of itself, and `specs/Rule.antt` the rule that its words keep.
+//! - `promise`: the nine promises.
+//! - `home`, `lead`, `pass`: the three who hold seats. `specs/Parts.antt` says what a contract sees of them.
+//! - `begin`, `end`, `turn`: how a phase begins and ends, by `specs/Phases.antt`.
+//! - `learns`, `steps`: the steps of a pass, and what each tells, by `specs/Told.antt`. `alone`: the steps of a home.
+//! - `specs/Stands.antt`: what the contract of every container's call cites.
+//! - `kit`, `gate`: supersteps.
+//! - `told`: the same in the words of the segments. `refused`: want of memory.
+//!
+//! `bcl_tally` is the smallest container, and uses all of it.
+#![tactic(auto)]
+
+mod alone;
+mod begin;
+mod end;
+mod gate;
+mod home;
+mod kit;
+mod lead;
+mod learns;
+mod pass;
+mod phased;
+mod promise;
+mod refused;
+mod steps;
+#[cfg(test)]
+mod tests;
+mod told;
+mod turn;
+mod view;
+
+pub use gate::{Always, Gate};
+pub use home::Home;
+pub use kit::{Kit, superstep};
+pub use lead::Lead;
+pub use learns::Learns;
+pub use pass::Pass;
+pub use phased::{Grants, Phased};
+pub use promise::{Add, Any, Find, FindInsert, Own, Pop, Promise, Push, PushPop, Read};
+pub use refused::Refused;
+pub use view::{Role, View};
