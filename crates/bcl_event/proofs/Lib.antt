@@ -1,0 +1,6 @@
+mod Lists
+mod Entries
+mod Bits
+mod Presence
+pub mod Values
+mod NumbersPass
