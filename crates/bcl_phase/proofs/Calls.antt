@@ -1,0 +1,174 @@
+-- Calls of several steps, and runs of several calls.
+use Rattle.std.proofs.Common.{◌≡◌, ℕ, ◌≤◌, List, [], ◌∷◌, ◌++◌, refl, sym, ap, ◌∙◌, subst, arith, ◌⊎◌, inl, inr, ⊎_elim}
+use Rattle.std.specs.List.{All}
+use Rattle.std.proofs.lemmas.List.Elements.{All-nil, All-append}
+use mathlib.Core.List.{IsPrefix, append-nil, append_assoc}
+use base.Growing.{prefix_refl, prefix_trans}
+use Rattle.bcl_event.specs.declared.event.Event.{Event}
+use Rattle.bcl_event.specs.History.{event, state_after, events}
+use Rattle.bcl_phase.specs.declared.view.View.{View}
+use Rattle.bcl_phase.specs.Views.{Tick, get, put, atomic, gets_after, puts_after, atomics_after, seen_by}
+use Rattle.bcl_phase.specs.Rule.{IsPermitted}
+use Rattle.bcl_phase.specs.Told.{Took, Told}
+use Rattle.bcl_phase.specs.Stands.{GoesOn, Sees, Goes, Stands, Ran}
+
+-- a count never falls
+gets_risen : (t : Tick) (n : ℕ) → n ≤ gets_after t n
+gets_risen get n = omega arith
+gets_risen put n = omega arith
+gets_risen atomic n = omega arith
+
+puts_risen : (t : Tick) (n : ℕ) → n ≤ puts_after t n
+puts_risen get n = omega arith
+puts_risen put n = omega arith
+puts_risen atomic n = omega arith
+
+atomics_risen : (t : Tick) (n : ℕ) → n ≤ atomics_after t n
+atomics_risen get n = omega arith
+atomics_risen put n = omega arith
+atomics_risen atomic n = omega arith
+
+module _ {C A X K : Type 0} where
+  pub goes_on_refl : (v : View C A X K) → GoesOn v v
+  goes_on_refl v = record { same_role = refl; same_key = refl; same_rank = refl; same_promise = refl; gets_rise = omega arith; puts_rise = omega arith; atomics_rise = omega arith }
+
+  pub goes_on_trans : (u v w : View C A X K) → GoesOn u v → GoesOn v w → GoesOn u w
+  goes_on_trans u v w a b = let g = a.gets_rise in let g' = b.gets_rise in let p = a.puts_rise in let p' = b.puts_rise in let n = a.atomics_rise in let n' = b.atomics_rise in record {
+    same_role = b.same_role ∙ a.same_role;
+    same_key = b.same_key ∙ a.same_key;
+    same_rank = b.same_rank ∙ a.same_rank;
+    same_promise = b.same_promise ∙ a.same_promise;
+    gets_rise = omega arith;
+    puts_rise = omega arith;
+    atomics_rise = omega arith;
+  }
+
+module _ {C A X K : Type 0} (ranks : K → ℕ) (permits : K → ℕ → ℕ → C → Type 0) (k : K) where
+  pub sees_refl : (v : View C A X K) → Sees ranks permits k v v
+  sees_refl v = record { late = []; grows = sym (append-nil v.seen); permitted = All-nil (IsPermitted ranks permits k v.promise) }
+
+  pub sees_trans : (u v w : View C A X K) → v.promise ≡ u.promise → Sees ranks permits k u v → Sees ranks permits k v w → Sees ranks permits k u w
+  sees_trans u v w same a b = record {
+    late = a.late ++ b.late;
+    grows = b.grows ∙ (ap (λ (z : List (Event C A)). z ++ b.late) a.grows ∙ append_assoc u.seen a.late b.late);
+    permitted = All-append (IsPermitted ranks permits k u.promise) a.late b.late a.permitted (subst (λ (z : ℕ). All (IsPermitted ranks permits k z) b.late) same b.permitted);
+  }
+
+  pub goes_refl : (v : View C A X K) → Goes ranks permits k v v
+  goes_refl v = record { same = goes_on_refl v; sees = sees_refl v; mine = prefix_refl v.mine }
+
+  pub goes_trans : (u v w : View C A X K) → Goes ranks permits k u v → Goes ranks permits k v w → Goes ranks permits k u w
+  goes_trans u v w a b = record {
+    same = goes_on_trans u v w a.same b.same;
+    sees = sees_trans u v w a.same.same_promise a.sees b.sees;
+    mine = prefix_trans u.mine v.mine w.mine a.mine b.mine;
+  }
+
+module _ {C A X K T : Type 0} (ranks : K → ℕ) (start : K → T) (next : K → T → C → A × T) (permits : K → ℕ → ℕ → C → Type 0) (k : K) where
+  -- a step stands with the events of the calls that it makes
+  pub stands_by : (tick : Tick) (v w : View C A X K) (then : ℕ → T → List C → X → Type 0) (n : ℕ) → Took ranks start next permits k tick v w → (told : Told start next k v then n w)
+      → Stands ranks start next permits k v w (events (next k) v.rank (state_after (next k) (start k) told.history) told.did)
+  stands_by tick v w then n took told =
+      let es : List (Event C A) = events (next k) v.rank (state_after (next k) (start k) told.history) told.did in
+      let cut = cut_at v.seen told.history w.seen es told.known told.seen in record {
+        legal = took.legal;
+        before = cut.0;
+        last = cut.1;
+        behind = cut.2;
+        none = λ e. told.seen ∙ ap (seen_by v.seen told.history) e;
+        mine = told.mine;
+        own = took.own;
+        same = record {
+          same_role = took.same_role;
+          same_key = took.same_key;
+          same_rank = took.same_rank;
+          same_promise = took.same_promise;
+          gets_rise = subst (λ (z : ℕ). v.gets ≤ z) (sym took.gets_rise) (gets_risen tick v.gets);
+          puts_rise = subst (λ (z : ℕ). v.puts ≤ z) (sym took.puts_rise) (puts_risen tick v.puts);
+          atomics_rise = subst (λ (z : ℕ). v.atomics ≤ z) (sym took.atomics_rise) (atomics_risen tick v.atomics);
+        };
+        sees = record { late = took.late; grows = took.grows; permitted = took.permitted };
+      }
+    where
+      cut_at : (seen h new es : List (Event C A)) → IsPrefix seen h → new ≡ seen_by seen h es → (before : List (Event C A)) × (new ≡ before ++ es) × IsPrefix seen before
+      cut_at seen h new [] p e = (seen, e ∙ sym (append-nil seen), prefix_refl seen)
+      cut_at seen h new (x ∷ xs) p e = (h, e, p)
+
+  -- a step that makes one call, with this reply
+  pub stands_one : (tick : Tick) (v w : View C A X K) (then : ℕ → T → List C → X → Type 0) (n : ℕ) (c : C) (a : A) → Took ranks start next permits k tick v w → (told : Told start next k v then n w)
+      → told.did ≡ c ∷ [] → (next k (state_after (next k) (start k) told.history) c).0 ≡ a → Stands ranks start next permits k v w (event v.rank c a ∷ [])
+  stands_one tick v w then n c a took told one reply = subst (Stands ranks start next permits k v w)
+      (ap (events (next k) v.rank (state_after (next k) (start k) told.history)) one ∙ (λ i. event v.rank c (reply i) ∷ [])) (stands_by tick v w then n took told)
+
+  -- a step that makes none
+  pub stands_none : (tick : Tick) (v w : View C A X K) (then : ℕ → T → List C → X → Type 0) (n : ℕ) → Took ranks start next permits k tick v w → (told : Told start next k v then n w)
+      → told.did ≡ [] → Stands ranks start next permits k v w []
+  stands_none tick v w then n took told none = subst (Stands ranks start next permits k v w)
+      (ap (events (next k) v.rank (state_after (next k) (start k) told.history)) none) (stands_by tick v w then n took told)
+
+  -- steps that make no call come before
+  pub stands_after : (u v w : View C A X K) (es : List (Event C A)) → Stands ranks start next permits k u v [] → Stands ranks start next permits k v w es → Stands ranks start next permits k u w es
+  stands_after u v w es a b = record {
+    legal = b.legal;
+    before = b.before;
+    last = b.last;
+    behind = subst (λ (z : List (Event C A)). IsPrefix z b.before) (a.none refl) b.behind;
+    none = λ e. b.none e ∙ a.none refl;
+    mine = b.mine ∙ ap (λ (z : List (Event C A)). z ++ es) (a.mine ∙ append-nil u.mine);
+    own = b.own;
+    same = goes_on_trans u v w a.same b.same;
+    sees = sees_trans ranks permits k u v w a.same.same_promise a.sees b.sees;
+  }
+
+  -- steps that make no call come behind
+  pub stands_still : (u v w : View C A X K) (es : List (Event C A)) → Stands ranks start next permits k u v es → Stands ranks start next permits k v w [] → Stands ranks start next permits k u w es
+  stands_still u v w es a b = record {
+    legal = b.legal;
+    before = a.before;
+    last = b.none refl ∙ a.last;
+    behind = a.behind;
+    none = λ e. b.none refl ∙ a.none e;
+    mine = b.mine ∙ (append-nil v.mine ∙ a.mine);
+    own = b.own;
+    same = goes_on_trans u v w a.same b.same;
+    sees = sees_trans ranks permits k u v w a.same.same_promise a.sees b.sees;
+  }
+
+  pub stands_goes : (v w : View C A X K) (es : List (Event C A)) → Stands ranks start next permits k v w es → Goes ranks permits k v w
+  stands_goes v w es a = record { same = a.same; sees = a.sees; mine = (es, sym a.mine) }
+
+  pub ran_goes : (v w : View C A X K) (es : List (Event C A)) → Ran ranks start next permits k v w es → Goes ranks permits k v w
+  ran_goes v w es a = record { same = a.same; sees = a.sees; mine = (es, sym a.mine) }
+
+  pub stands_ran : (v w : View C A X K) (es : List (Event C A)) → Stands ranks start next permits k v w es → Ran ranks start next permits k v w es
+  stands_ran v w es a = record {
+    legal = a.legal;
+    last = last_of es v.seen w.seen a.before a.last a.none;
+    mine = a.mine;
+    own = a.own;
+    same = a.same;
+    sees = a.sees;
+  }
+    where
+      last_of : (es old new before : List (Event C A)) → new ≡ before ++ es → (es ≡ [] → new ≡ old) → ((es ≡ []) × (new ≡ old)) ⊎ ((front before' : List (Event C A)) × (e : Event C A) × (es ≡ front ++ e ∷ []) × (new ≡ before' ++ e ∷ []))
+      last_of [] old new before at none = inl (refl, none refl)
+      last_of (x ∷ xs) old new before at none = let c = last_one x xs in inr (c.0, before ++ c.0, c.1, c.2, at ∙ (ap (λ (z : List (Event C A)). before ++ z) c.2 ∙ sym (append_assoc before c.0 (c.1 ∷ []))))
+        where
+          last_one : (x : Event C A) (xs : List (Event C A)) → (front : List (Event C A)) × (e : Event C A) × (x ∷ xs ≡ front ++ e ∷ [])
+          last_one x [] = ([], x, refl)
+          last_one x (y ∷ ys) = let r = last_one y ys in (x ∷ r.0, r.1, ap (λ (z : List (Event C A)). x ∷ z) r.2)
+
+  pub ran_trans : (u v w : View C A X K) (es fs : List (Event C A)) → Ran ranks start next permits k u v es → Ran ranks start next permits k v w fs → Ran ranks start next permits k u w (es ++ fs)
+  ran_trans u v w es fs a b = record {
+    legal = b.legal;
+    last = ⊎_elim
+        (λ (none : (fs ≡ []) × (w.seen ≡ v.seen)). let same : es ++ fs ≡ es = ap (λ (z : List (Event C A)). es ++ z) none.0 ∙ append-nil es in ⊎_elim
+        (λ (t : (es ≡ []) × (v.seen ≡ u.seen)). inl (same ∙ t.0, none.1 ∙ t.1))
+        (λ (t : (front before : List (Event C A)) × (e : Event C A) × (es ≡ front ++ e ∷ []) × (v.seen ≡ before ++ e ∷ [])). inr (t.0, t.1, t.2, same ∙ t.3, none.1 ∙ t.4)) a.last)
+        (λ (t : (front before : List (Event C A)) × (e : Event C A) × (fs ≡ front ++ e ∷ []) × (w.seen ≡ before ++ e ∷ [])). inr (es ++ t.0, t.1, t.2, ap (λ (z : List (Event C A)). es ++ z) t.3 ∙ sym (append_assoc es t.0 (t.2 ∷ [])), t.4))
+        b.last;
+    mine = b.mine ∙ (ap (λ (z : List (Event C A)). z ++ fs) a.mine ∙ append_assoc u.mine es fs);
+    own = b.own;
+    same = goes_on_trans u v w a.same b.same;
+    sees = sees_trans ranks permits k u v w a.same.same_promise a.sees b.sees;
+  }

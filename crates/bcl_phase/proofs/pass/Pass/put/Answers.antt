@@ -1,0 +1,23 @@
+use Rattle.std.proofs.Common.{◌∙◌}
+use Rattle.bcl_segment.specs.Parts.{number_of, key_of, view_of, word_of}
+use Rattle.bcl_phase.specs.Views.{put}
+use Rattle.bcl_phase.proofs.Keeps.{puts}
+use Rattle.bcl_phase.proofs.pass.Pass.put.Goals as goal
+
+pub put-requires-clause-rule : goal.put-requires-clause-rule
+put-requires-clause-rule g c = let it = c.args.self.now in let segments = c.args.lead.now.owned.segments in
+    puts _ _ _ _ _ (key_of segments) g.R.TableRule.holds g.met.R.Phased.from g.met.R.Phased.back (number_of it.seat) put (view_of it.seat) (word_of segments c.args.spot) c.args.word g.M.Learns.then it.pass.0 c.requires.of.1 c.requires.step
+
+pub invariant_of-self : goal.invariant_of-self
+invariant_of-self g c = let took = (c.put.ensures.told _ c.requires.of.1).0 in let pass = c.args.self.now.pass in
+    record { pass = (took.same_role ∙ pass.0, took.same_promise ∙ pass.1, took.same_rank ∙ pass.2); within = c.args.self.now.within }
+
+pub returns-clause-told : goal.returns-clause-told
+returns-clause-told g c = (c.put.ensures.told _ c.requires.of.1).1
+
+pub returns-clause-took : goal.returns-clause-took
+returns-clause-took g c = (c.put.ensures.told _ c.requires.of.1).0
+
+pub returns-clause-of : goal.returns-clause-of
+returns-clause-of g c = let took = (c.put.ensures.told _ c.requires.of.1).0 in
+    (c.put.ensures.same.0 ∙ c.requires.of.0, took.same_key ∙ c.requires.of.1, c.requires.of.2)

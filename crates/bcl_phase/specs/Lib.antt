@@ -1,0 +1,7 @@
+pub mod Views
+pub mod Rule
+pub mod Told
+pub mod Seats
+pub mod Phases
+pub mod Stands
+pub mod Parts

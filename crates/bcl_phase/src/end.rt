@@ -1,0 +1,50 @@
+//! How a phase ends.
+
+ghost use Rattle.std.specs.Prelude.{◌≡◌, ℕ, length, IfOk, IfErr};
+ghost use mathlib.Core.Option.{some};
+ghost use lib.ListN.{get_elem?};
+ghost use Rattle.bcl_phase.specs.Phases.{begun, Returned, Ended};
+ghost use Rattle.bcl_phase.specs.Parts.{home_view, home_key, home_layout, home_heads, home_id, lead_view, lead_key, lead_layout, lead_heads, lead_id, pass_view, IsOf, IsLeadOf};
+
+use crate::home::Owned;
+use crate::told::{Takes, Turns};
+use crate::{Grants, Home, Lead, Pass, Phased, Promise};
+
+impl<R: Phased> Lead<R> {
+    /// Ends the phase, and consumes its passes. The home has seen the whole history.
+    ///
+    /// One join for each rank, the last rank first, and one load of the first word. It never refuses.
+    ///
+    /// Condition: the passes are all those of this lead, rank i at place i, and no call of theirs is in flight.
+    pub fn end<P: Promise>(self, mut passes: Vec<Pass<R, P>>) -> Home<R>
+    where
+        R: Grants<P>,
+        requires all { length passes.items ≡ (lead_layout self).ranks }
+        requires of { (i : ℕ) (p : _) → get_elem? passes.items i ≡ some p → IsOf p self }
+        requires ranks { (i : ℕ) (p : _) → get_elem? passes.items i ≡ some p → (pass_view p).rank ≡ i }
+        requires rest { (i : ℕ) (p : _) → get_elem? passes.items i ≡ some p → (pass_view p).note ≡ R.rest }
+        ensures ended { Ended R.ranks R.start R.next R.permits (lead_key self) (lead_view self).promise (lead_view self).start (home_view result).seen }
+        ensures passes { (i : ℕ) (p : _) → get_elem? passes.items i ≡ some p → Returned (lead_view self).start (home_view result).seen i (pass_view p) }
+        ensures home { IsLeadOf self result }
+    {
+        let first = self.owned.first();
+        let Owned {
+            segments,
+            mut seat,
+            layout,
+            heads,
+        } = self.owned;
+        while let Some(pass) = passes.pop() {
+            segments.join::<Takes<R>>(&mut seat, pass.into_seat());
+        }
+        segments.get::<Turns<R, P>>(&mut seat, first);
+        Home {
+            owned: Owned {
+                segments,
+                seat,
+                layout,
+                heads,
+            },
+        }
+    }
+}

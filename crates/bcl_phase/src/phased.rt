@@ -1,0 +1,68 @@
+//! What a container says of itself.
+
+ghost use Rattle.std.specs.Prelude.{◌≡◌, ℕ, List, [], ◌∷◌, ◌++◌, ◌<◌, length};
+ghost use Rattle.bcl_phase.specs.Views.{opened};
+ghost use Rattle.bcl_phase.specs.Rule.{Kept};
+
+use crate::{Promise, View};
+use bcl_segment::Rule;
+
+/// A container over segments of words: its sequential object, the calls that each promise permits, and what its words
+/// mean.
+///
+/// One rule serves all containers, `Kept` of `specs/Rule.antt`: there is one history, legal for the sequential object,
+/// of which each seat knows a beginning. Its `fits` is the container's own part, and is all that a container's steps
+/// are proved against. An implementor gives the rule of its segments as
+///
+///     impl TableRule<(), View<Call, Reply, Note, Key>, Key> for Container {
+///         ghost holds = { Kept ranks start next permits fits };
+///         ghost first = { λ k. opened k (ranks k) rest };
+///     }
+///
+/// and then the laws `from`, `back` and `opens` are the identity.
+pub trait Phased: Rule<View = View<Self::Call, Self::Reply, Self::Note, <Self as Rule>::Key>> {
+    type Call;
+
+    type Reply;
+    /// What the sequential object is in. No value of it is made.
+    type State;
+    /// A call in flight. No value of it is made.
+    type Note;
+
+    // How many ranks there are.
+    ghost ranks: { Self.Key → ℕ };
+
+    // The first contents.
+    ghost start: { Self.Key → Self.State };
+
+    // The sequential object: the reply to a call in a state, and the state after it.
+    ghost next: { Self.Key → Self.State → Self.Call → Self.Reply × Self.State };
+
+    // Whether a promise permits a rank a call.
+    ghost permits: { Self.Key → ℕ → ℕ → Self.Call → Type 0 };
+
+    // No call in flight.
+    ghost rest: { Self.Note };
+
+    // How the words, the state and the note of each live rank fit, under a promise.
+    ghost fits: { Self.Key → ℕ → List ℕ → Self.State → List Self.Note → Type 0 };
+
+    // One more rank comes, with no call in flight.
+    ghost admits: { (k : Self.Key) (p : ℕ) (ws : List ℕ) (t : Self.State) (xs : List Self.Note) → length xs < ranks k → fits k p ws t xs → fits k p ws t (xs ++ rest ∷ []) };
+
+    // The last rank goes, with no call in flight.
+    ghost releases: { (k : Self.Key) (p : ℕ) (ws : List ℕ) (t : Self.State) (xs : List Self.Note) → fits k p ws t (xs ++ rest ∷ []) → fits k p ws t xs };
+
+    // Where no rank is left, another promise begins.
+    ghost begins: { (k : Self.Key) (p q : ℕ) (ws : List ℕ) (t : Self.State) → fits k p ws t [] → fits k q ws t [] };
+
+    // The rule of the segments is the one of all containers.
+    ghost from: { (k : Self.Key) (s : _) → Self.TableRule.holds k s → Kept ranks start next permits fits k s };
+
+    ghost back: { (k : Self.Key) (s : _) → Kept ranks start next permits fits k s → Self.TableRule.holds k s };
+
+    ghost opens: { (k : Self.Key) → Self.TableRule.first k ≡ opened k (ranks k) rest };
+}
+
+/// The container's calls are proved under this promise, so that a phase may run under it.
+pub trait Grants<P: Promise>: Phased {}

@@ -1,0 +1,107 @@
+use crate::{
+    Add, Always, Any, Find, FindInsert, Gate, Kit, Own, Pop, Promise, Push, PushPop, Read,
+    superstep,
+};
+use std::sync::atomic::{AtomicU64, Ordering};
+
+// Holds each of the ranks 0 and 1 until the other has entered, and counts how many of the two saw the other.
+#[derive(Drop)]
+struct Meeting {
+    zero: AtomicU64,
+    one: AtomicU64,
+    met: AtomicU64,
+}
+
+impl Meeting {
+    fn new() -> Self {
+        Meeting {
+            zero: AtomicU64::new(0),
+            one: AtomicU64::new(0),
+            met: AtomicU64::new(0),
+        }
+    }
+
+    fn wait_for(&self, mine: &AtomicU64, other: &AtomicU64) {
+        mine.store(1, Ordering::SeqCst);
+        for _ in 0..100_000_000u64 {
+            if other.load(Ordering::SeqCst) == 1 {
+                self.met.fetch_add(1, Ordering::SeqCst);
+                return;
+            }
+        }
+    }
+}
+
+impl Gate for Meeting {
+    fn enter(&self, rank: u32) {
+        if rank == 0 {
+            self.wait_for(&self.zero, &self.one);
+        } else if rank == 1 {
+            self.wait_for(&self.one, &self.zero);
+        }
+    }
+}
+
+#[derive(Clone, Copy)]
+struct Count {
+    rank: u32,
+    count: u32,
+}
+
+impl Kit for Count {
+    ghost use Rattle.std.specs.Prelude.{◌≡◌, ◌+◌, ◌<◌};
+
+    ghost ready = { λ k. k.count < 100 };
+
+    ghost step = { λ k l. (l.rank ≡ k.rank) × (l.count ≡ k.count + 1) };
+
+    fn rank(&self) -> u32 {
+        self.rank
+    }
+
+    fn part(&mut self) {
+        self.count += 1;
+    }
+}
+
+#[test]
+fn two_ranks_meet_in_a_superstep(rt: HostRuntime) {
+    let gate = Meeting::new();
+    let mut kits = [Count { rank: 0, count: 0 }, Count { rank: 1, count: 10 }];
+    superstep(&rt, &mut kits, &gate);
+    assert_eq!(rt; gate.met.load(Ordering::SeqCst), 2);
+    prove_eq!(kits[0].count, 1);
+    prove_eq!(kits[1].count, 11);
+}
+
+#[test]
+fn each_kit_does_its_part(rt: HostRuntime) {
+    let mut kits = [
+        Count { rank: 2, count: 0 },
+        Count { rank: 1, count: 10 },
+        Count { rank: 0, count: 20 },
+    ];
+    superstep(&rt, &mut kits, &Always);
+    prove_eq!(kits[2].count, 21);
+    assert_eq!(rt; kits[0].count, 1);
+}
+
+fn code<P: Promise>() -> u64 {
+    P::CODE
+}
+
+#[test]
+fn promises_are_numbered_in_order(rt: HostRuntime) {
+    let codes = [
+        code::<Find>(),
+        code::<Own>(),
+        code::<Add>(),
+        code::<FindInsert>(),
+        code::<Push>(),
+        code::<Pop>(),
+        code::<PushPop>(),
+        code::<Read>(),
+        code::<Any>(),
+    ];
+    assert!(rt; codes == [1, 2, 3, 4, 5, 6, 7, 8, 9]);
+}

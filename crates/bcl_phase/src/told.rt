@@ -1,0 +1,86 @@
+//! What each kind of step tells, in the words of the segments.
+
+ghost use Rattle.std.specs.Prelude.{◌≡◌, Some};
+ghost use Rattle.bcl_phase.specs.Views.{get as a_get, put as a_put, atomic as an_atomic, begins, cuts, cut, takes, spent};
+ghost use Rattle.bcl_phase.specs.Told.{Took, Told, Ends, HomeTold};
+
+use crate::{Learns, Phased, Promise};
+use atomic_table::{Join, Split};
+use bcl_segment::Tells;
+use std::marker::PhantomData;
+
+/// A get of a pass.
+pub(crate) struct Gets<R, M> {
+    of: PhantomData<(R, M)>,
+}
+
+impl<R: Phased, M: Learns<R::State, R::Call, R::Note>> Tells<R::View> for Gets<R, M> {
+    ghost then = { λ _ _ _ v n w. (k : R.Key) → v.key ≡ Some k → Took R.ranks R.start R.next R.permits k a_get v w × Told R.start R.next k v M.then n w };
+}
+
+/// A put of a pass.
+pub(crate) struct Puts<R, M> {
+    of: PhantomData<(R, M)>,
+}
+
+impl<R: Phased, M: Learns<R::State, R::Call, R::Note>> Tells<R::View> for Puts<R, M> {
+    ghost then = { λ _ _ _ v n w. (k : R.Key) → v.key ≡ Some k → Took R.ranks R.start R.next R.permits k a_put v w × Told R.start R.next k v M.then n w };
+}
+
+/// An exchange or a fetch of a pass.
+pub(crate) struct Changes<R, M> {
+    of: PhantomData<(R, M)>,
+}
+
+impl<R: Phased, M: Learns<R::State, R::Call, R::Note>> Tells<R::View> for Changes<R, M> {
+    ghost then = { λ _ _ _ v n w. (k : R.Key) → v.key ≡ Some k → Took R.ranks R.start R.next R.permits k an_atomic v w × Told R.start R.next k v M.then n w };
+}
+
+/// A get of a home.
+pub(crate) struct HomeGets<R, M> {
+    of: PhantomData<(R, M)>,
+}
+
+impl<R: Phased, M: Learns<R::State, R::Call, R::Note>> Tells<R::View> for HomeGets<R, M> {
+    ghost then = { λ _ _ _ v n w. (k : R.Key) → v.key ≡ Some k → HomeTold R.start R.next k a_get v (λ m t did. M.then m t did R.rest) n w };
+}
+
+/// A put of a home.
+pub(crate) struct HomePuts<R, M> {
+    of: PhantomData<(R, M)>,
+}
+
+impl<R: Phased, M: Learns<R::State, R::Call, R::Note>> Tells<R::View> for HomePuts<R, M> {
+    ghost then = { λ _ _ _ v n w. (k : R.Key) → v.key ≡ Some k → HomeTold R.start R.next k a_put v (λ m t did. M.then m t did R.rest) n w };
+}
+
+/// A home begins a phase under the promise P, and is told of the one before.
+pub(crate) struct Turns<R, P> {
+    of: PhantomData<(R, P)>,
+}
+
+impl<R: Phased, P: Promise> Tells<R::View> for Turns<R, P> {
+    ghost then = { λ _ _ _ v _ w. (w ≡ begins P.CODE v) × ((k : R.Key) → v.key ≡ Some k → Ends R.ranks R.start R.next R.permits k v) };
+}
+
+/// A home cuts a pass for the next rank.
+pub(crate) struct Cuts<R> {
+    of: PhantomData<R>,
+}
+
+impl<R: Phased> Split<R::View> for Cuts<R> {
+    ghost left = { cuts };
+
+    ghost right = { cut R.rest };
+}
+
+/// A home takes back the pass of its last rank.
+pub(crate) struct Takes<R> {
+    of: PhantomData<R>,
+}
+
+impl<R: Phased> Join<R::View> for Takes<R> {
+    ghost both = { takes };
+
+    ghost spent = { spent R.rest };
+}

@@ -1,0 +1,41 @@
+//! How one phase turns into the next.
+
+ghost use Rattle.std.specs.Prelude.{◌≡◌, ℕ, length, IfOk, IfErr};
+ghost use mathlib.Core.Option.{some};
+ghost use lib.ListN.{get_elem?};
+ghost use Rattle.bcl_phase.specs.Phases.{begun, Returned, Ended};
+ghost use Rattle.bcl_phase.specs.Parts.{home_view, lead_view, lead_key, lead_layout, pass_view, IsOf, IsLeadOf, IsSameLead};
+
+use crate::{Grants, Lead, Pass, Phased, Promise, Refused};
+use std::alloc::Global;
+
+impl<R: Phased> Lead<R> {
+    /// Ends the phase and begins the next, under another promise: the barrier between two supersteps.
+    ///
+    /// It is `end` and then `begin`. It refuses for want of memory alone, and hands back the home of `end`.
+    ///
+    /// Condition: as of `end`.
+    pub fn turn<P: Promise, Q: Promise>(
+        self,
+        alloc: Global,
+        passes: Vec<Pass<R, P>>,
+    ) -> Result<(Lead<R>, Vec<Pass<R, Q>>), Refused<crate::Home<R>>>
+    where
+        R: Grants<P> + Grants<Q>,
+        requires all { length passes.items ≡ (lead_layout self).ranks }
+        requires of { (i : ℕ) (p : _) → get_elem? passes.items i ≡ some p → IsOf p self }
+        requires ranks { (i : ℕ) (p : _) → get_elem? passes.items i ≡ some p → (pass_view p).rank ≡ i }
+        requires rest { (i : ℕ) (p : _) → get_elem? passes.items i ≡ some p → (pass_view p).note ≡ R.rest }
+        ensures ended { IfOk result (λ r. Ended R.ranks R.start R.next R.permits (lead_key self) (lead_view self).promise (lead_view self).start (lead_view r.0).start) }
+        ensures passes { IfOk result (λ r. (i : ℕ) (p : _) → get_elem? passes.items i ≡ some p → Returned (lead_view self).start (lead_view r.0).start i (pass_view p)) }
+        ensures count { IfOk result (λ r. length r.1.items ≡ (lead_layout self).ranks) }
+        ensures begun { IfOk result (λ r. (i : ℕ) (p : _) → get_elem? r.1.items i ≡ some p → pass_view p ≡ begun R.rest Q.CODE (lead_key self) (lead_view r.0).start i) }
+        ensures of { IfOk result (λ r. (i : ℕ) (p : _) → get_elem? r.1.items i ≡ some p → IsOf p r.0) }
+        ensures lead { IfOk result (λ r. IsSameLead self r.0 × ((lead_view r.0).promise ≡ Q.CODE)) }
+        ensures refused { IfErr result (λ e. Ended R.ranks R.start R.next R.permits (lead_key self) (lead_view self).promise (lead_view self).start (home_view e.home).seen) }
+        ensures refused_passes { IfErr result (λ e. (i : ℕ) (p : _) → get_elem? passes.items i ≡ some p → Returned (lead_view self).start (home_view e.home).seen i (pass_view p)) }
+        ensures refused_home { IfErr result (λ e. IsLeadOf self e.home) }
+    {
+        self.end::<P>(passes).begin::<Q>(alloc)
+    }
+}
