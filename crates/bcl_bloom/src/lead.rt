@@ -1,0 +1,58 @@
+//! Who has begun a phase of a filter, and ends it.
+
+ghost use Rattle.bcl_phase.specs.Parts.{lead_key, lead_layout, lead_heads};
+ghost use Rattle.bcl_bloom.specs.Bloom.{IsShaped};
+
+use crate::filter::Filter;
+use crate::home::FilterHome;
+use crate::key::Hashed;
+use crate::pass::FilterPass;
+use bcl_event::{FilterCall, FilterReply};
+use bcl_phase::{Grants, Lead, Phased, Promise, Refused};
+use bcl_segment::Layout;
+use std::alloc::Global;
+use std::collections::LinkedList;
+
+/// A filter in a phase: each rank has a pass. Ranks share the lead by `&`.
+#[derive(Drop)]
+pub struct FilterLead<K>
+where
+    Filter<K>: Phased<Key = Layout>,
+{
+    pub(crate) lead: Lead<Filter<K>>,
+    ghost shape: { IsShaped (lead_heads lead) (lead_layout lead) (lead_key lead) },
+}
+
+impl<K: Hashed> FilterLead<K> {
+    ghost use Rattle.std.specs.Prelude.{◌≡◌, ℕ, length, IfOk, IfErr};
+    ghost use mathlib.Core.Option.{some};
+    ghost use lib.ListN.{get_elem?};
+    ghost use Rattle.bcl_phase.specs.Phases.{begun, Returned, Ended};
+    ghost use Rattle.bcl_phase.specs.Parts.{pass_view};
+    ghost use Rattle.bcl_bloom.specs.Parts as filter;
+
+    /// Ends the phase, and consumes its passes. The home has seen the whole history.
+    ///
+    /// It never refuses. Condition: the passes are all those of this lead, rank i at place i.
+    pub fn end<P: Promise>(self, passes: Vec<FilterPass<P, K>>) -> FilterHome<K>
+    where
+        Filter<K>: Grants<P>
+            + Phased<
+                Call = FilterCall<K>,
+                Reply = FilterReply,
+                State = LinkedList<LinkedList<u64>>,
+                Note = (),
+                Key = Layout,
+            >,
+        requires all { length passes.items ≡ (filter.lead_layout self).ranks }
+        requires of { (i : ℕ) (p : _) → get_elem? passes.items i ≡ some p → filter.IsOf p self }
+        requires ranks { (i : ℕ) (p : _) → get_elem? passes.items i ≡ some p → (pass_view p).rank ≡ i }
+        ensures ended { Ended ⟦<Filter<K> as Phased>⟧.ranks ⟦<Filter<K> as Phased>⟧.start ⟦<Filter<K> as Phased>⟧.next ⟦<Filter<K> as Phased>⟧.permits (filter.lead_key self) (filter.lead_view self).promise (filter.lead_view self).start (filter.home_view result).seen }
+        ensures passes { (i : ℕ) (p : _) → get_elem? passes.items i ≡ some p → Returned (filter.lead_view self).start (filter.home_view result).seen i (pass_view p) }
+        ensures home { filter.IsLeadOf self result }
+    {
+        FilterHome {
+            home: self.lead.end::<P>(passes),
+        }
+    }
+}

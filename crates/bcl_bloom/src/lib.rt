@@ -1,0 +1,15 @@
+//! A Bloom filter.
+#![tactic(auto)]
+
+mod filter;
+mod home;
+mod key;
+mod lead;
+mod marks;
+mod pass;
+
+pub use filter::Filter;
+pub use home::FilterHome;
+pub use key::Hashed;
+pub use lead::FilterLead;
+pub use pass::{FilterCalls, FilterPass};
