@@ -6,7 +6,7 @@ ghost use Rattle.bcl_bloom.specs.Bloom.{ranks, start, next, permits, fits};
 
 use atomic_table::TableRule;
 use bcl_event::{FilterCall, FilterReply};
-use bcl_phase::{Any, Grants, Phased, View};
+use bcl_phase::{Any, Grants, Phased, Promise, View};
 use bcl_segment::{Layout, Rule};
 use crate::key::Hashed;
 use std::collections::LinkedList;
@@ -62,3 +62,18 @@ impl<K: Hashed> Phased for Filter<K> {
 }
 
 impl<K: Hashed> Grants<Any> for Filter<K> {}
+
+/// The filter's calls are proved under this promise, so that a phase may run under it.
+pub trait FilterGrants<P: Promise, K>:
+    Grants<P>
+    + Phased<
+        Call = FilterCall<K>,
+        Reply = FilterReply,
+        State = LinkedList<LinkedList<u64>>,
+        Note = (),
+        Key = Layout,
+    >
+{
+}
+
+impl<K: Hashed> FilterGrants<Any, K> for Filter<K> {}

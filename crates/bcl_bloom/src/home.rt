@@ -3,16 +3,14 @@
 ghost use Rattle.bcl_phase.specs.Parts.{home_key, home_layout, home_heads};
 ghost use Rattle.bcl_bloom.specs.Bloom.{IsShaped};
 
-use crate::filter::Filter;
+use crate::filter::{Filter, FilterGrants};
 use crate::key::Hashed;
 use crate::lead::FilterLead;
 use crate::pass::FilterPass;
-use bcl_phase::{Grants, Home, Phased, Promise, Refused};
-use bcl_event::{FilterCall, FilterReply};
+use bcl_phase::{Home, Phased, Promise, Refused};
 use bcl_segment::Layout;
 use bcl_words::NoMemory;
 use std::alloc::Global;
-use std::collections::LinkedList;
 
 /// A filter that one caller has alone: no pass is out.
 #[derive(Drop)]
@@ -54,14 +52,7 @@ impl<K: Hashed> FilterHome<K> {
         alloc: Global,
     ) -> Result<(FilterLead<K>, Vec<FilterPass<P, K>>), Refused<FilterHome<K>>>
     where
-        Filter<K>: Grants<P>
-            + Phased<
-                Call = FilterCall<K>,
-                Reply = FilterReply,
-                State = LinkedList<LinkedList<u64>>,
-                Note = (),
-                Key = Layout,
-            >,
+        Filter<K>: FilterGrants<P, K>,
         ensures count { IfOk result (λ r. length r.1.items ≡ (filter.home_layout self).ranks) }
         ensures begun { IfOk result (λ r. (i : ℕ) (p : _) → get_elem? r.1.items i ≡ some p → pass_view p ≡ begun tt P.CODE (filter.home_key self) (filter.home_view self).seen i) }
         ensures of { IfOk result (λ r. (i : ℕ) (p : _) → get_elem? r.1.items i ≡ some p → filter.IsOf p r.0) }

@@ -8,7 +8,7 @@ mod lead;
 mod marks;
 mod pass;
 
-pub use filter::Filter;
+pub use filter::{Filter, FilterGrants};
 pub use home::FilterHome;
 pub use key::Hashed;
 pub use lead::FilterLead;
