@@ -95,7 +95,7 @@ module _ {K : Type 0} (width : ℕ) (words : K → List ℕ) (layout : Layout) (
           ∙ ap (λ (n : ℕ). has_bit n m.bit) (get_or-set_same ws i (bit_or (slice_index ws i) word) 0 long)
           ∙ has_bit-or (slice_index ws i) word m.bit
           ∙ ap₂ (λ a b. a || b) (has m.bit ∙ ap (λ (b : Bool). list_any (λ other. m.bit == other) (bits_of width words key) || b) (has_bit-none m.bit) ∙ or-false (list_any (λ other. m.bit == other) (bits_of width words key)))
-              (ap (λ (j : ℕ). has_bit (slice_index ws j) m.bit) (sym here) ∙ fit.1 m)
+          (ap (λ (j : ℕ). has_bit (slice_index ws j) m.bit) (sym here) ∙ fit.1 m)
       marks_too m false e = ap (λ (n : ℕ). has_bit n m.bit) (get_or-set_other ws i m.block (bit_or (slice_index ws i) word) 0 (λ same. false≢true (sym e ∙ (Decides-eqb m.block i).1 same))) ∙ fit.1 m
 
       marked : (m : Mark) → has_bit (slice_index (slice_set ws i (bit_or (slice_index ws i) word)) m.block) m.bit ≡ is_marked (places layout) width (words key ∷ t) m

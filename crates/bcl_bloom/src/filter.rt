@@ -4,11 +4,11 @@ ghost use Rattle.bcl_phase.specs.Views.{opened};
 ghost use Rattle.bcl_phase.specs.Rule.{Kept};
 ghost use Rattle.bcl_bloom.specs.Bloom.{ranks, start, next, permits, fits};
 
+use crate::key::Hashed;
 use atomic_table::TableRule;
 use bcl_event::{FilterCall, FilterReply};
 use bcl_phase::{Any, Grants, Phased, Promise, View};
 use bcl_segment::{Layout, Rule};
-use crate::key::Hashed;
 use std::collections::LinkedList;
 use std::marker::PhantomData;
 
@@ -25,6 +25,7 @@ impl<K: Hashed> TableRule<(), View<FilterCall<K>, FilterReply, (), Layout>, Layo
 
 impl<K: Hashed> Rule for Filter<K> {
     type View = View<FilterCall<K>, FilterReply, (), Layout>;
+
     type Key = Layout;
 }
 
@@ -32,8 +33,11 @@ impl<K: Hashed> Phased for Filter<K> {
     ghost use Rattle.std.specs.Prelude.{refl};
 
     type Call = FilterCall<K>;
+
     type Reply = FilterReply;
+
     type State = LinkedList<LinkedList<u64>>;
+
     type Note = ();
 
     ghost ranks = { ranks };
@@ -64,16 +68,13 @@ impl<K: Hashed> Phased for Filter<K> {
 impl<K: Hashed> Grants<Any> for Filter<K> {}
 
 /// The filter's calls are proved under this promise, so that a phase may run under it.
-pub trait FilterGrants<P: Promise, K>:
-    Grants<P>
+pub trait FilterGrants<P: Promise, K>: Grants<P>
     + Phased<
         Call = FilterCall<K>,
         Reply = FilterReply,
         State = LinkedList<LinkedList<u64>>,
         Note = (),
         Key = Layout,
-    >
-{
-}
+    > {}
 
 impl<K: Hashed> FilterGrants<Any, K> for Filter<K> {}

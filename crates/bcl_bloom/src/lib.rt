@@ -7,6 +7,8 @@ mod key;
 mod lead;
 mod marks;
 mod pass;
+#[cfg(test)]
+mod tests;
 
 pub use filter::{Filter, FilterGrants};
 pub use home::FilterHome;
