@@ -5,6 +5,7 @@ use Rattle.atomic_table.specs.Seated.{TableId}
 use Rattle.bcl_segment.specs.declared.layout.Layout.{Layout}
 use Rattle.bcl_segment.specs.declared.layout.Spot.{Spot}
 use Rattle.bcl_segment.specs.Parts as segment
+use Rattle.bcl_segment.specs.Resting.{resting_view}
 use Rattle.bcl_phase.specs.declared.view.View.{View}
 use Rattle.bcl_phase.specs.declared.home.Home.{Home}
 use Rattle.bcl_phase.specs.declared.lead.Lead.{Lead}
@@ -34,25 +35,25 @@ abbrev pub HomeHasSpot : {R C A T X K : Type 0} {g : _} → Home R C A T X K g �
 HomeHasSpot home spot = segment.HasSpot home.owned.segments spot
 
 abbrev pub lead_view : {R C A T X K : Type 0} {g : _} → Lead R C A T X K g → View C A X K
-lead_view lead = segment.view_of lead.owned.seat
+lead_view lead = resting_view lead.home
 
 abbrev pub lead_id : {R C A T X K : Type 0} {g : _} → Lead R C A T X K g → TableId
-lead_id lead = segment.id_of lead.owned.segments
+lead_id lead = segment.id_of lead.segments
 
 abbrev pub lead_key : {R C A T X K : Type 0} {g : _} → Lead R C A T X K g → K
-lead_key lead = segment.key_of lead.owned.segments
+lead_key lead = segment.key_of lead.segments
 
 abbrev pub lead_layout : {R C A T X K : Type 0} {g : _} → Lead R C A T X K g → Layout
-lead_layout lead = segment.layout_of lead.owned.segments
+lead_layout lead = segment.layout_of lead.segments
 
 abbrev pub lead_heads : {R C A T X K : Type 0} {g : _} → Lead R C A T X K g → ℕ
-lead_heads lead = segment.heads_of lead.owned.segments
+lead_heads lead = segment.heads_of lead.segments
 
 abbrev pub lead_word : {R C A T X K : Type 0} {g : _} → Lead R C A T X K g → Spot → ℕ
-lead_word lead spot = segment.word_of lead.owned.segments spot
+lead_word lead spot = segment.word_of lead.segments spot
 
 abbrev pub HasSpot : {R C A T X K : Type 0} {g : _} → Lead R C A T X K g → Spot → Type 0
-HasSpot lead spot = segment.HasSpot lead.owned.segments spot
+HasSpot lead spot = segment.HasSpot lead.segments spot
 
 abbrev pub pass_view : {R P C A T X K : Type 0} {g : _} {t : _} {p : _} → Pass R P C A T X K g t p → View C A X K
 pass_view pass = segment.view_of pass.seat

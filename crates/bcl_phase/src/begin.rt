@@ -10,7 +10,7 @@ ghost use Rattle.bcl_phase.specs.Seats.{IsHomeSeat};
 ghost use Rattle.bcl_phase.specs.Phases.{begun};
 ghost use Rattle.bcl_phase.specs.Parts.{home_view, home_key, home_layout, home_heads, lead_view, pass_view, IsOf, IsLeadOf};
 
-use crate::home::Owned;
+use crate::home::{Owned, first_spot};
 use crate::told::{Cuts, Turns};
 use crate::{Grants, Home, Lead, Pass, Phased, Promise, Refused};
 use bcl_segment::{Layout, Seat, Segments};
@@ -71,23 +71,21 @@ impl<R: Phased> Home<R> {
         let Ok(passes) = Vec::with_capacity(alloc, self.owned.layout.ranks as usize) else {
             return Err(Refused { home: self });
         };
-        let first = self.owned.first();
         let Owned {
             segments,
             mut seat,
             layout,
             heads,
         } = self.owned;
+        let first = first_spot::<R>(&segments, heads);
         segments.get::<Turns<R, P>>(&mut seat, first);
         let passes = deal::<R, P>(&segments, &mut seat, layout, passes);
         Ok((
             Lead {
-                owned: Owned {
-                    segments,
-                    seat,
-                    layout,
-                    heads,
-                },
+                segments,
+                home: seat.rest(),
+                layout,
+                heads,
             },
             passes,
         ))

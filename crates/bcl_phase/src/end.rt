@@ -6,7 +6,7 @@ ghost use lib.ListN.{get_elem?};
 ghost use Rattle.bcl_phase.specs.Phases.{begun, Returned, Ended};
 ghost use Rattle.bcl_phase.specs.Parts.{home_view, home_key, home_layout, home_heads, home_id, lead_view, lead_key, lead_layout, lead_heads, lead_id, pass_view, IsOf, IsLeadOf};
 
-use crate::home::Owned;
+use crate::home::{Owned, first_spot};
 use crate::told::{Takes, Turns};
 use crate::{Grants, Home, Lead, Pass, Phased, Promise};
 
@@ -27,16 +27,17 @@ impl<R: Phased> Lead<R> {
         ensures passes { (i : ℕ) (p : _) → get_elem? passes.items i ≡ some p → Returned (lead_view self).start (home_view result).seen i (pass_view p) }
         ensures home { IsLeadOf self result }
     {
-        let first = self.owned.first();
-        let Owned {
+        let Lead {
             segments,
-            mut seat,
+            home,
             layout,
             heads,
-        } = self.owned;
+        } = self;
+        let mut seat = home.wake();
         while let Some(pass) = passes.pop() {
             segments.join::<Takes<R>>(&mut seat, pass.into_seat());
         }
+        let first = first_spot::<R>(&segments, heads);
         segments.get::<Turns<R, P>>(&mut seat, first);
         Home {
             owned: Owned {

@@ -19,16 +19,15 @@ pub(crate) struct Owned<R: Phased> {
     ghost front: { heads ≡ heads_of segments },
 }
 
-impl<R: Phased> Owned<R> {
-    // The spot of the first word.
-    pub(crate) fn first(&self) -> Spot
-        ensures first { HasSpot self.now.segments result }
-    {
-        if self.heads > 0 {
-            Spot::Head(0)
-        } else {
-            Spot::At(GlobalPtr { rank: 0, offset: 0 })
-        }
+// The spot of the first word.
+pub(crate) fn first_spot<R: Phased>(segments: &Segments<R>, heads: u32) -> Spot
+    requires heads { heads ≡ heads_of segments.now }
+    ensures first { HasSpot segments.now result }
+{
+    if heads > 0 {
+        Spot::Head(0)
+    } else {
+        Spot::At(GlobalPtr { rank: 0, offset: 0 })
     }
 }
 

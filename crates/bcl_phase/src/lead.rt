@@ -1,15 +1,23 @@
 //! Who has begun a phase, and ends it.
 
 ghost use Rattle.std.specs.Prelude.{◌≡◌, []};
-ghost use Rattle.bcl_segment.specs.Parts.{view_of};
+ghost use Rattle.bcl_segment.specs.Parts.{layout_of, heads_of};
+ghost use Rattle.bcl_segment.specs.Resting.{resting_view};
+ghost use Rattle.bcl_phase.specs.Seats.{IsRestingHome};
 
 use crate::Phased;
-use crate::home::Owned;
+use bcl_segment::{Layout, Resting, Segments};
 
-/// A container in a phase: each rank has a pass. Ranks share the lead by `&`.
+/// A container in a phase: each rank has a pass. Ranks share the lead by `&`, and each call of a pass is given it.
 #[derive(Drop)]
 pub struct Lead<R: Phased> {
-    pub(crate) owned: Owned<R>,
-    pub ghost shared: { (view_of owned.seat).passes ≡ owned.layout.ranks },
-    pub ghost none_back: { (view_of owned.seat).back ≡ [] },
+    pub(crate) segments: Segments<R>,
+    pub(crate) home: Resting<R>,
+    pub(crate) layout: Layout,
+    pub(crate) heads: u32,
+    ghost seated: { IsRestingHome segments home },
+    ghost shape: { layout ≡ layout_of segments },
+    ghost front: { heads ≡ heads_of segments },
+    pub ghost shared: { (resting_view home).passes ≡ layout.ranks },
+    pub ghost none_back: { (resting_view home).back ≡ [] },
 }

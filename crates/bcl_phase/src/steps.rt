@@ -32,7 +32,7 @@ impl<R: Phased, P: Promise> Pass<R, P> {
         ensures took { Took R.ranks R.start R.next R.permits (lead_key lead.now) a_get (pass_view self.old) (pass_view self.new) }
         ensures of { IsOf self.new lead.now }
     {
-        lead.owned.segments.get::<Gets<R, M>>(&mut self.seat, spot)
+        lead.segments.get::<Gets<R, M>>(&mut self.seat, spot)
     }
 
     /// Puts a word at a spot, by one store, and tells nothing of the old word. It raises `puts` by one.
@@ -51,9 +51,7 @@ impl<R: Phased, P: Promise> Pass<R, P> {
         ensures took { Took R.ranks R.start R.next R.permits (lead_key lead.now) a_put (pass_view self.old) (pass_view self.new) }
         ensures of { IsOf self.new lead.now }
     {
-        lead.owned
-            .segments
-            .put::<Puts<R, M>>(&mut self.seat, spot, word);
+        lead.segments.put::<Puts<R, M>>(&mut self.seat, spot, word);
     }
 
     /// Compares and exchanges the word at a spot: where it is `old` it becomes `new`. `Err` has the word that was found,
@@ -76,8 +74,7 @@ impl<R: Phased, P: Promise> Pass<R, P> {
         ensures took { Took R.ranks R.start R.next R.permits (lead_key lead.now) an_atomic (pass_view self.old) (pass_view self.new) }
         ensures of { IsOf self.new lead.now }
     {
-        lead.owned
-            .segments
+        lead.segments
             .cas::<Changes<R, M>>(&mut self.seat, spot, old, new)
     }
 
@@ -97,8 +94,7 @@ impl<R: Phased, P: Promise> Pass<R, P> {
         ensures took { Took R.ranks R.start R.next R.permits (lead_key lead.now) an_atomic (pass_view self.old) (pass_view self.new) }
         ensures of { IsOf self.new lead.now }
     {
-        lead.owned
-            .segments
+        lead.segments
             .fetch_add::<Changes<R, M>>(&mut self.seat, spot, word)
     }
 
@@ -119,8 +115,7 @@ impl<R: Phased, P: Promise> Pass<R, P> {
         ensures took { Took R.ranks R.start R.next R.permits (lead_key lead.now) an_atomic (pass_view self.old) (pass_view self.new) }
         ensures of { IsOf self.new lead.now }
     {
-        lead.owned
-            .segments
+        lead.segments
             .fetch_sub::<Changes<R, M>>(&mut self.seat, spot, word)
     }
 
@@ -140,8 +135,7 @@ impl<R: Phased, P: Promise> Pass<R, P> {
         ensures took { Took R.ranks R.start R.next R.permits (lead_key lead.now) an_atomic (pass_view self.old) (pass_view self.new) }
         ensures of { IsOf self.new lead.now }
     {
-        lead.owned
-            .segments
+        lead.segments
             .fetch_or::<Changes<R, M>>(&mut self.seat, spot, word)
     }
 
@@ -161,8 +155,7 @@ impl<R: Phased, P: Promise> Pass<R, P> {
         ensures took { Took R.ranks R.start R.next R.permits (lead_key lead.now) an_atomic (pass_view self.old) (pass_view self.new) }
         ensures of { IsOf self.new lead.now }
     {
-        lead.owned
-            .segments
+        lead.segments
             .fetch_min::<Changes<R, M>>(&mut self.seat, spot, word)
     }
 }

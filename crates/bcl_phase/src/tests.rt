@@ -1,6 +1,6 @@
 use crate::{
-    Add, Always, Any, Find, FindInsert, Gate, Kit, Own, Pop, Promise, Push, PushPop, Read,
-    superstep,
+    Add, Always, Any, Find, FindInsert, Gate, Home, Kit, Lead, Own, Pass, Phased, Pop, Promise,
+    Push, PushPop, Read, superstep,
 };
 use std::sync::atomic::{AtomicU64, Ordering};
 
@@ -104,4 +104,16 @@ fn promises_are_numbered_in_order(rt: HostRuntime) {
         code::<Any>(),
     ];
     assert!(rt; codes == [1, 2, 3, 4, 5, 6, 7, 8, 9]);
+}
+
+fn is_send<T: Send>() {}
+
+fn is_sync<T: Sync>() {}
+
+// Under any rule and promise.
+fn threads_share<R: Phased, P: Promise + Send>() {
+    is_send::<Home<R>>();
+    is_send::<Lead<R>>();
+    is_sync::<Lead<R>>();
+    is_send::<Pass<R, P>>();
 }

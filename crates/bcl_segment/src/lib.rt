@@ -17,6 +17,7 @@
 //! - `layout`: where a word stands. `GlobalPtr`, `Layout`, `Spot`.
 //! - `rule`: what a rule is, and `free` the one that allows every step.
 //! - `seat`: what a thread steps with, and what it knows.
+//! - `resting`, over `still`: a seat that is put by, which threads may share, as they may not share a seat.
 //! - `tells`: what a step tells its caller.
 //! - `segments`: how segments are made, and how a seat is cut in two and joined.
 //! - `steps`: the operations. `specs/Allowed.antt` says what each asks of the rule, by the definitions on plain data in
@@ -28,18 +29,21 @@
 
 mod free;
 mod layout;
+mod resting;
 #[cfg(test)]
 mod rising;
 mod rule;
 mod seat;
 mod segments;
 mod steps;
+mod still;
 mod tells;
 #[cfg(test)]
 mod tests;
 
 pub use free::Free;
 pub use layout::{GlobalPtr, Layout, Spot};
+pub use resting::Resting;
 pub use rule::Rule;
 pub use seat::Seat;
 pub use segments::Segments;

@@ -2,7 +2,7 @@ ghost use Rattle.std.specs.Prelude.{◌≡◌, ◌<◌, IfOk};
 ghost use Rattle.bcl_segment.specs.Parts.{heads_of, layout_of, IsSeatOf};
 
 use crate::rising::{Rising, look, raise};
-use crate::{Free, GlobalPtr, Layout, Rule, Seat, Segments, Spot};
+use crate::{Free, GlobalPtr, Layout, Resting, Rule, Seat, Segments, Spot};
 use bcl_words::NoMemory;
 use std::alloc::Global;
 use std::marker::Brand;
@@ -50,6 +50,7 @@ fn words_stand_in_the_order_given(rt: HostRuntime) -> Result<(), Fail> {
 fn each_step_answers_the_word_that_was_there(rt: HostRuntime) -> Result<(), Fail> {
     let (segments, mut seat) = segments(rt.alloc(), [0; 7])?;
     segments.put::<Brand>(&mut seat, HEAD, 5);
+    let mut seat = seat.rest().wake();
     assert_eq!(rt; segments.fetch_add::<Brand>(&mut seat, HEAD, 2), 5);
     assert!(rt; segments.cas::<Brand>(&mut seat, HEAD, 5, 9) == Err(7));
     assert_eq!(rt; segments.fetch_min::<Brand>(&mut seat, HEAD, 4), 7);
@@ -85,6 +86,8 @@ fn threads_share<R: Rule>() {
     is_send::<Segments<R>>();
     is_sync::<Segments<R>>();
     is_send::<Seat<R>>();
+    is_send::<Resting<R>>();
+    is_sync::<Resting<R>>();
 }
 
 // Adds 1 to the first head word so many times.

@@ -7,11 +7,11 @@ use Rattle.bcl_phase.proofs.Returns.{told, none_taken, ended_of, returned_of, la
 use Rattle.bcl_phase.proofs.lead.Lead.end.Goals as goal
 
 pub loop-pass-init : goal.loop-pass-init
-loop-pass-init g c = let it = c.args.self in record {
-  seat = it.owned.seated;
-  out = it.shared ∙ (ap (λ (z : Layout). z.ranks) it.owned.shape ∙ sym c.requires.all);
+loop-pass-init g c = let it = c.args.self in let woke = c.wake-seat.ensures.seat in record {
+  seat = (woke.0 ∙ it.seated.0, woke.1 ∙ it.seated.1, (λ i. (woke.2 i).key) ∙ it.seated.2, (λ i. (woke.2 i).rank) ∙ it.seated.3);
+  out = (λ i. (woke.2 i).passes) ∙ (it.shared ∙ (ap (λ (z : Layout). z.ranks) it.shape ∙ sym c.requires.all));
   phase = (refl, refl);
-  taken = none_taken _ _ it.none_back;
+  taken = none_taken _ _ ((λ i. (woke.2 i).back) ∙ it.none_back);
   left = λ i p e. ((c.requires.of i p e).0, c.requires.ranks i p e, c.requires.rest i p e);
 }
 
@@ -26,8 +26,8 @@ join-requires-clause-rule g c = let I = c.loop-pass.invariant in let e = c.into_
     let count : length c.loop-pass.passes.items ≡ length c.pop.new.self.items + 1 = ap length c.in-Some.ensures.items ∙ length-append c.pop.new.self.items (c.in-Some.pass ∷ []) in
     let out : (view_of c.loop-pass.seat).passes ≡ length c.loop-pass.passes.items = I.out in
     let rank : (view_of c.into_seat.result).rank ≡ length c.pop.new.self.items = (λ i. (view_of (e i)).rank) ∙ last.1 in
-    joins _ _ _ _ _ g.R.Phased.rest (key_of c.args.self.owned.segments) g.R.TableRule.holds g.met.R.Phased.from g.met.R.Phased.back (number_of c.loop-pass.seat) (view_of c.loop-pass.seat) (number_of c.into_seat.result) (view_of c.into_seat.result)
-    I.seat.1 ((λ i. (view_of (e i)).role) ∙ it.0) (omega arith) ((λ i. (view_of (e i)).note) ∙ last.2) (g.R.Phased.releases (key_of c.args.self.owned.segments))
+    joins _ _ _ _ _ g.R.Phased.rest (key_of c.args.self.segments) g.R.TableRule.holds g.met.R.Phased.from g.met.R.Phased.back (number_of c.loop-pass.seat) (view_of c.loop-pass.seat) (number_of c.into_seat.result) (view_of c.into_seat.result)
+    I.seat.1 ((λ i. (view_of (e i)).role) ∙ it.0) (omega arith) ((λ i. (view_of (e i)).note) ∙ last.2) (g.R.Phased.releases (key_of c.args.self.segments))
 
 pub loop-pass-preserved : goal.loop-pass-preserved
 loop-pass-preserved g c = let I = c.loop-pass.invariant in let e = c.into_seat.ensures.seat in let same = c.join.ensures.same in let w = c.join.ensures.both in
@@ -41,17 +41,17 @@ loop-pass-preserved g c = let I = c.loop-pass.invariant in let e = c.into_seat.e
     }
 
 pub get-requires-clause-rule : goal.get-requires-clause-rule
-get-requires-clause-rule g c = let I = c.loop-pass.invariant in let segments = c.args.self.owned.segments in
+get-requires-clause-rule g c = let I = c.loop-pass.invariant in let segments = c.args.self.segments in
     let none : length c.loop-pass.passes.items ≡ 0 = search rules in
     turns _ _ _ _ _ g.R.Phased.rest (key_of segments) g.R.TableRule.holds g.met.R.Phased.from g.met.R.Phased.back (number_of c.loop-pass.seat) (view_of c.loop-pass.seat) _ g.P.Promise.CODE
     I.seat.1 (I.out ∙ none) I.seat.2 (g.R.Phased.begins (key_of segments))
 
 pub returns-clause-ended : goal.returns-clause-ended
 returns-clause-ended g c = let I = c.loop-pass.invariant in let told = c.get.ensures.told in
-    ended_of _ _ _ _ _ (view_of c.loop-pass.seat) _ _ _ (told.1 _ I.seat.2) I.phase.1 I.phase.0 (λ i. (told.0 i).seen)
+    ended_of _ _ _ _ _ (view_of c.loop-pass.seat) _ _ _ (told.1 _ I.seat.2) (I.phase.1 ∙ (λ i. (c.wake-seat.ensures.seat.2 i).promise)) (I.phase.0 ∙ (λ i. (c.wake-seat.ensures.seat.2 i).start)) (λ i. (told.0 i).seen)
 
 pub returns-clause-passes : goal.returns-clause-passes
 returns-clause-passes g c i p at = let I = c.loop-pass.invariant in let turned = c.get.ensures.told in
     let none : length c.loop-pass.passes.items ≡ 0 = search rules in
     returned_of (view_of c.loop-pass.seat) _ _ i (pass_view p) ((turned.1 _ I.seat.2).returned i (told (pass_view p)) (came_back (λ p. told (pass_view p)) c.args.passes.items c.loop-pass.passes.items (view_of c.loop-pass.seat).back I.taken none i p at))
-    I.phase.0 (λ i. (turned.0 i).seen)
+    (I.phase.0 ∙ (λ i. (c.wake-seat.ensures.seat.2 i).start)) (λ i. (turned.0 i).seen)

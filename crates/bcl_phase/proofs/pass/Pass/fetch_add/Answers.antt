@@ -6,7 +6,7 @@ use Rattle.bcl_phase.proofs.Keeps.{moves}
 use Rattle.bcl_phase.proofs.pass.Pass.fetch_add.Goals as goal
 
 pub fetch_add-requires-clause-rule : goal.fetch_add-requires-clause-rule
-fetch_add-requires-clause-rule g c = let it = c.args.self.now in let segments = c.args.lead.now.owned.segments in
+fetch_add-requires-clause-rule g c = let it = c.args.self.now in let segments = c.args.lead.now.segments in
     moves _ _ _ _ _ (key_of segments) g.R.TableRule.holds g.met.R.Phased.from g.met.R.Phased.back (number_of it.seat) atomic (view_of it.seat) (word_of segments c.args.spot) (λ n. (n + c.args.word) % 2 ^ 64) g.M.Learns.then it.pass.0 c.requires.of.1 c.requires.step
 
 pub invariant_of-self : goal.invariant_of-self

@@ -5,7 +5,7 @@ use Rattle.bcl_phase.proofs.Keeps.{puts}
 use Rattle.bcl_phase.proofs.pass.Pass.put.Goals as goal
 
 pub put-requires-clause-rule : goal.put-requires-clause-rule
-put-requires-clause-rule g c = let it = c.args.self.now in let segments = c.args.lead.now.owned.segments in
+put-requires-clause-rule g c = let it = c.args.self.now in let segments = c.args.lead.now.segments in
     puts _ _ _ _ _ (key_of segments) g.R.TableRule.holds g.met.R.Phased.from g.met.R.Phased.back (number_of it.seat) put (view_of it.seat) (word_of segments c.args.spot) c.args.word g.M.Learns.then it.pass.0 c.requires.of.1 c.requires.step
 
 pub invariant_of-self : goal.invariant_of-self

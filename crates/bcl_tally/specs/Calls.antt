@@ -1,0 +1,38 @@
+-- What the calls of a tally say, of its home, its lead and its passes.
+-- Each rank's segment is one word, and there are no head words.
+use Rattle.std.specs.Prelude.{◌≡◌, ℕ, List, [], ◌∷◌}
+use Rattle.bcl_event.specs.declared.event.Event.{Event}
+use Rattle.bcl_event.specs.History.{state_after}
+use Rattle.bcl_segment.specs.declared.layout.Layout.{Layout}
+use Rattle.bcl_phase.specs.declared.view.View.{View}
+use Rattle.bcl_phase.specs.Stands as phase
+use Rattle.bcl_tally.specs.declared.tally.Call.{Call}
+use Rattle.bcl_tally.specs.declared.tally.Reply.{Reply}
+use Rattle.bcl_tally.specs.declared.tally.Note.{Note}
+use Rattle.bcl_tally.specs.declared.tally.Note.TheVariants.{Got}
+use Rattle.bcl_tally.specs.Tally.{ranks, start, next, permits}
+
+-- one word a rank, for so many ranks
+abbrev pub IsShaped : ℕ → ℕ → Layout → Type 0
+IsShaped k heads layout = (heads ≡ 0) × (layout.ranks ≡ k) × (layout.per_rank ≡ 1)
+
+-- the numbers that a history leaves
+abbrev pub numbers : ℕ → List (Event Call Reply) → List ℕ
+numbers k history = state_after (next k) (start k) history
+
+abbrev pub Stands : ℕ → View Call Reply Note ℕ → View Call Reply Note ℕ → List (Event Call Reply) → Type 0
+Stands k old new es = phase.Stands ranks start next permits k old new es
+
+abbrev pub Ran : ℕ → View Call Reply Note ℕ → View Call Reply Note ℕ → List (Event Call Reply) → Type 0
+Ran k old new es = phase.Ran ranks start next permits k old new es
+
+abbrev pub Goes : ℕ → View Call Reply Note ℕ → View Call Reply Note ℕ → Type 0
+Goes k old new = phase.Goes ranks permits k old new
+
+-- a step that makes these calls in the state t, the last of them answered so, and leaves this note
+abbrev pub Makes : Call → Reply → Note → List ℕ → List Call → Note → Type 0
+Makes c a note t did y = (did ≡ c ∷ []) × ((next 0 t c).0 ≡ a) × (y ≡ note)
+
+-- a step that makes no call, and leaves the number found in flight
+abbrev pub Gets : ℕ → List ℕ → List Call → Note → Type 0
+Gets n t did y = (did ≡ []) × (y ≡ Got n)
