@@ -1,5 +1,5 @@
 -- How the blocks of a filter fit as ranks step.
-use Rattle.std.proofs.Common.{◌≡◌, ℕ, ◌%◌, ◌<◌, List, [], ◌∷◌, length, replicate, slice_index, slice_set, refl, sym, ap, ap₂, ◌∙◌, subst, ⊎_elim, arith, length-set, get_or-set_same, get_or-set_other}
+use Rattle.std.proofs.Common.{◌≡◌, ℕ, ◌%◌, ◌<◌, List, [], ◌∷◌, length, slice_index, slice_set, refl, sym, ap, ap₂, ◌∙◌, subst, length-set, get_or-set_same, get_or-set_other}
 use Rattle.std.specs.Prelude.{Bool, true, false, ◌==◌, ◌&&◌, ◌||◌, bit_or, map, take}
 use Rattle.std.specs.List.{list_all, list_any, All}
 use Rattle.std.proofs.Math.Bool.{or-false}
@@ -7,8 +7,6 @@ use Rattle.std.proofs.lemmas.Bool.{false≢true}
 use Rattle.std.proofs.lemmas.Bool.Decides.{Decides-eqb}
 use Rattle.std.proofs.lemmas.List.Elements.{All-nil, All-cons}
 use lib.Seq.{set-get_or}
-use mathlib.Core.Option.{some}
-use lib.ListN.{get_elem?}
 use Rattle.bcl_words.specs.Hash.{hash_of}
 use Rattle.bcl_segment.specs.declared.layout.Layout.{Layout}
 use Rattle.bcl_segment.specs.declared.layout.Spot.{Spot}

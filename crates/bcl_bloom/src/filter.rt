@@ -12,7 +12,8 @@ use bcl_segment::{Layout, Rule};
 use std::collections::LinkedList;
 use std::marker::PhantomData;
 
-/// A Bloom filter of keys of one type. Its key is its layout, each place of which is a block of 64 marks.
+/// The rule of a Bloom filter of keys of one type. What is fixed when it is made is its layout, each place of which is a
+/// block of 64 marks.
 pub struct Filter<K> {
     of: PhantomData<K>,
 }

@@ -32,7 +32,9 @@ impl<K: Hashed> FilterHome<K> {
     ghost use Rattle.bcl_phase.specs.Parts.{pass_view};
     ghost use Rattle.bcl_bloom.specs.Parts as filter;
 
-    /// A filter that holds nothing, of `ranks * per_rank` blocks of one word.
+    /// A filter that holds nothing, of `ranks * per_rank` blocks of one word, each with 64 marks. It makes no step.
+    ///
+    /// Condition: a key fits; there are 1 to 64 ranks and 1 to 2^27 blocks.
     pub fn new(alloc: Global, ranks: u32, per_rank: u32) -> Result<FilterHome<K>, NoMemory>
         requires fits { Fits K.width }
         requires ranks { (1 ≤ ranks) × (ranks ≤ 64) }
@@ -46,7 +48,10 @@ impl<K: Hashed> FilterHome<K> {
         Ok(FilterHome { home })
     }
 
-    /// Begins a phase.
+    /// Begins a phase: as many passes as there are ranks, rank i at place i, and the lead that ends it.
+    ///
+    /// It refuses for want of memory alone, and hands the home back unchanged. `Any` is the one promise that the filter
+    /// grants.
     pub fn begin<P: Promise>(
         self,
         alloc: Global,

@@ -1,4 +1,4 @@
-//! The calls.
+//! The calls. The hash of the key is taken once a call, and no call takes memory.
 
 ghost use Rattle.std.specs.Prelude.{◌≡◌, ◌+◌, ◌∷◌, [], true};
 ghost use Rattle.bcl_words.specs.Words.{Fits};
@@ -30,7 +30,10 @@ pub trait FilterCalls<K: Hashed> {
     // it steps on these words, which have this key and this layout
     ghost at: { Self → TableId → Layout → Layout → Type 0 };
 
-    /// Inserts a key, and answers whether it may have been there: `true` exactly where the reply is `Present`.
+    /// Inserts a key, and answers whether it may have been there: `true` exactly where the reply is `Present`, as it is
+    /// where the pass has seen an insertion of the key.
+    ///
+    /// One `fetch_or` of the key's four marks. It never refuses.
     fn insert(&mut self, lead: &FilterLead<K>, key: &K) -> bool
         requires fits { Fits K.width }
         requires of { at self.old (lead_id lead.now) (lead_key lead.now) (lead_layout lead.now) }
@@ -42,7 +45,10 @@ pub trait FilterCalls<K: Hashed> {
         ensures puts { (view self.new).puts ≡ (view self.old).puts }
         ensures atomics { (view self.new).atomics ≡ (view self.old).atomics + 1 };
 
-    /// Answers whether a key may have been inserted: `true` exactly where the reply is `Present`.
+    /// Answers whether a key may have been inserted: `true` exactly where the reply is `Present`, as it is where the pass
+    /// has seen an insertion of the key. So `false` is never wrong.
+    ///
+    /// One `get` of the key's block. It never refuses.
     fn find(&mut self, lead: &FilterLead<K>, key: &K) -> bool
         requires fits { Fits K.width }
         requires of { at self.old (lead_id lead.now) (lead_key lead.now) (lead_layout lead.now) }
@@ -68,7 +74,8 @@ impl<K: Hashed> FilterCalls<K> for FilterPass<Any, K> {
         let h = key.key_hash();
         let block = block_of(self.layout(), h);
         let bits = bits_of(h);
-        let old = self.fetch_or::<Brand, K>(&lead.lead, block, block_with(&bits), key);
+        let marks = block_with(&bits);
+        let old = self.fetch_or::<Brand, K>(&lead.lead, block, marks, key);
         are_set(old, &bits)
     }
 
@@ -77,7 +84,7 @@ impl<K: Hashed> FilterCalls<K> for FilterPass<Any, K> {
         let h = key.key_hash();
         let block = block_of(self.layout(), h);
         let bits = bits_of(h);
-        let old = self.get::<Brand, K>(&lead.lead, block, key);
-        are_set(old, &bits)
+        let word = self.get::<Brand, K>(&lead.lead, block, key);
+        are_set(word, &bits)
     }
 }

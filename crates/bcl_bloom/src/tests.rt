@@ -1,9 +1,9 @@
-ghost use Rattle.std.specs.Prelude.{◌≡◌, ◌+◌, ◌<◌, ◌≤◌, ◌^◌, ℕ, length, true, IfOk, IfSome};
+ghost use Rattle.std.specs.Prelude.{◌≡◌, ◌+◌, ℕ, length, true, IfOk, IfSome, IsNone};
 ghost use mathlib.Core.Option.{some};
 ghost use lib.ListN.{get_elem?};
 ghost use Rattle.std.specs.List.{All};
 ghost use Rattle.bcl_phase.specs.Parts.{pass_view};
-ghost use Rattle.bcl_bloom.specs.Parts.{lead_layout, IsOf};
+ghost use Rattle.bcl_bloom.specs.Parts.{IsOf};
 
 use crate::marks::bits_of;
 use crate::{FilterCalls, FilterHome, FilterLead, FilterPass, Hashed};
@@ -66,6 +66,7 @@ fn last_pass(
     ensures of { (i : ℕ) (p : _) → get_elem? passes.new.items i ≡ some p → IsOf p lead.now × ((pass_view p).rank ≡ i) }
     ensures last { IfSome result (λ p. IsOf p lead.now × ((pass_view p).rank ≡ length passes.new.items)) }
     ensures fewer { IfSome result (λ p. length passes.old.items ≡ length passes.new.items + 1) }
+    ensures none { IsNone result → length passes.new.items ≡ length passes.old.items }
 {
     let Some(pass) = passes.pop() else {
         return None;
@@ -118,5 +119,63 @@ fn ranks_find_what_they_insert_side_by_side(rt: HostRuntime) -> Result<(), Fail>
     }
     assert_eq!(rt; own, 4);
     assert_eq!(rt; others, 0);
+    Ok(())
+}
+
+// Each rank inserts a key, the last rank last.
+fn each_inserts(
+    lead: &FilterLead<u64>,
+    passes: &mut Vec<FilterPass<Any, u64>>,
+    first: u64,
+) -> Result<(), AllocError>
+    requires of { (i : ℕ) (p : _) → get_elem? passes.old.items i ≡ some p → IsOf p lead.now × ((pass_view p).rank ≡ i) }
+    ensures of { IfOk result (λ _. (i : ℕ) (p : _) → get_elem? passes.new.items i ≡ some p → IsOf p lead.now × ((pass_view p).rank ≡ i)) }
+    ensures all { IfOk result (λ _. length passes.new.items ≡ length passes.old.items) }
+{
+    let Some(mut pass) = last_pass(lead, passes) else {
+        return Ok(());
+    };
+    let key = first.wrapping_add(u64::from(pass.rank()));
+    each_inserts(lead, passes, first)?;
+    pass.insert(lead, &key);
+    passes.push(pass)?;
+    Ok(())
+}
+
+// How many of the ranks find a key.
+fn finders(
+    lead: &FilterLead<u64>,
+    passes: &mut Vec<FilterPass<Any, u64>>,
+    key: u64,
+) -> Result<u32, AllocError>
+    requires of { (i : ℕ) (p : _) → get_elem? passes.old.items i ≡ some p → IsOf p lead.now × ((pass_view p).rank ≡ i) }
+    ensures of { IfOk result (λ _. (i : ℕ) (p : _) → get_elem? passes.new.items i ≡ some p → IsOf p lead.now × ((pass_view p).rank ≡ i)) }
+    ensures all { IfOk result (λ _. length passes.new.items ≡ length passes.old.items) }
+{
+    let Some(mut pass) = last_pass(lead, passes) else {
+        return Ok(0);
+    };
+    let found = finders(lead, passes, key)?;
+    let here = pass.find(lead, &key);
+    passes.push(pass)?;
+    Ok(found.wrapping_add(u32::from(here)))
+}
+
+#[test]
+fn all_ranks_find_after_a_turn_what_each_inserted(rt: HostRuntime) -> Result<(), Fail> {
+    let home = FilterHome::<u64>::new(rt.alloc(), 4, 256)?;
+    let Ok((lead, mut passes)) = home.begin::<Any>(rt.alloc()) else {
+        return Err(Fail::new("no memory"));
+    };
+    each_inserts(&lead, &mut passes, 7)?;
+    let Ok((lead, mut passes)) = lead.turn::<Any, Any>(rt.alloc(), passes) else {
+        return Err(Fail::new("no memory"));
+    };
+    assert_eq!(rt; finders(&lead, &mut passes, 7)?, 4);
+    assert_eq!(rt; finders(&lead, &mut passes, 8)?, 4);
+    assert_eq!(rt; finders(&lead, &mut passes, 9)?, 4);
+    assert_eq!(rt; finders(&lead, &mut passes, 10)?, 4);
+    assert_eq!(rt; finders(&lead, &mut passes, 1007)?, 0);
+    lead.end::<Any>(passes);
     Ok(())
 }

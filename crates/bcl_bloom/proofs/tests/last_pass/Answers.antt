@@ -1,4 +1,4 @@
-use Rattle.std.proofs.Common.{◌≡◌, ℕ}
+use Rattle.std.proofs.Common.{◌≡◌}
 use Rattle.bcl_phase.specs.Parts.{pass_view}
 use Rattle.bcl_phase.proofs.Returns.{last_placed, rest_placed}
 use Rattle.bcl_bloom.specs.Parts.{IsOf}

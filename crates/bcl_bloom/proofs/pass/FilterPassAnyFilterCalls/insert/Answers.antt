@@ -1,4 +1,4 @@
-use Rattle.std.proofs.Common.{refl, ℕ, List, ◌∷◌, [], ◌∙◌, ap}
+use Rattle.std.proofs.Common.{refl, ℕ, List, ◌∙◌, ap}
 use Rattle.std.specs.Prelude.{take}
 use Rattle.std.specs.Prelude.{◌==◌, ◌||◌}
 use Rattle.std.specs.List.{list_any}
@@ -16,8 +16,8 @@ pub fetch_or-old-requires-clause-step : goal.fetch_or-old-requires-clause-step
 fetch_or-old-requires-clause-step g c = let v = pass_view c.args.self.now in
     inserts g.K.Hashed.width g.K.Hashed.words (lead_key c.args.lead.now.lead) v.promise v.rank _ c.args.key.now c.args.self.now.pass.1
     (block_is (lead_heads c.args.lead.now.lead) c.key_hash-h.result (hash_of (take g.K.Hashed.width (g.K.Hashed.words c.args.key.now))) (lead_layout c.args.lead.now.lead) (lead_key c.args.lead.now.lead) c.layout.result c.block_of-block.result c.args.lead.now.shape (c.layout.ensures.layout ∙ c.requires.of.2) c.key_hash-h.ensures.hash c.block_of-block.ensures.word)
-    c.block_with.result (block_within (lead_heads c.args.lead.now.lead) c.key_hash-h.result (hash_of (take g.K.Hashed.width (g.K.Hashed.words c.args.key.now))) (lead_layout c.args.lead.now.lead) (lead_key c.args.lead.now.lead) c.layout.result c.block_of-block.result c.args.lead.now.shape (c.layout.ensures.layout ∙ c.requires.of.2) c.key_hash-h.ensures.hash c.block_of-block.ensures.word c.block_of-block.ensures.within)
-    (λ bit. c.block_with.ensures.bits bit ∙ ap (λ (l : List ℕ). list_any (λ other. bit == other) l || has_bit 0 bit) (c.bits_of-bits.ensures.bits ∙ ap four_bits c.key_hash-h.ensures.hash))
+    c.block_with-marks.result (block_within (lead_heads c.args.lead.now.lead) c.key_hash-h.result (hash_of (take g.K.Hashed.width (g.K.Hashed.words c.args.key.now))) (lead_layout c.args.lead.now.lead) (lead_key c.args.lead.now.lead) c.layout.result c.block_of-block.result c.args.lead.now.shape (c.layout.ensures.layout ∙ c.requires.of.2) c.key_hash-h.ensures.hash c.block_of-block.ensures.word c.block_of-block.ensures.within)
+    (λ bit. c.block_with-marks.ensures.bits bit ∙ ap (λ (l : List ℕ). list_any (λ other. bit == other) l || has_bit 0 bit) (c.bits_of-bits.ensures.bits ∙ ap four_bits c.key_hash-h.ensures.hash))
 
 pub returns-clause-stands : goal.returns-clause-stands
 returns-clause-stands g c = answers_stand g.K.Hashed.width g.K.Hashed.words (lead_key c.args.lead.now.lead) atomic (pass_view c.args.self.now) (pass_view c.fetch_or-old.new.self) (Insert c.args.key.now) c.args.key.now c.fetch_or-old.result c.key_hash-h.result c.bits_of-bits.result c.are_set.result
