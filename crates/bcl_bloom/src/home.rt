@@ -40,6 +40,7 @@ impl<K: Hashed> FilterHome<K> {
         requires ranks { (1 ≤ ranks) × (ranks ≤ 64) }
         requires blocks { (1 ≤ ranks * per_rank) × (ranks * per_rank ≤ 2 ^ 27) }
         ensures empty { IfOk result (λ h. filter.home_view h ≡ opened (record { ranks = ranks; per_rank = per_rank }) ranks tt) }
+        ensures key { IfOk result (λ h. filter.home_key h ≡ record { ranks = ranks; per_rank = per_rank }) }
         ensures layout { IfOk result (λ h. filter.home_layout h ≡ record { ranks = ranks; per_rank = per_rank }) }
     {
         let layout = Layout { ranks, per_rank };
