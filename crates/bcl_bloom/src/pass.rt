@@ -70,6 +70,7 @@ impl<K: Hashed> FilterCalls<K> for FilterPass<Any, K> {
     ghost at = { IsAt };
 
     fn insert(&mut self, lead: &FilterLead<K>, key: &K) -> bool {
+        // It does nothing: its law shows that a key inserted before is present.
         inserted_keys_are_present();
         let h = key.key_hash();
         let block = block_of(self.layout(), h);
@@ -80,6 +81,7 @@ impl<K: Hashed> FilterCalls<K> for FilterPass<Any, K> {
     }
 
     fn find(&mut self, lead: &FilterLead<K>, key: &K) -> bool {
+        // It does nothing: its law shows that a key inserted before is present.
         inserted_keys_are_present();
         let h = key.key_hash();
         let block = block_of(self.layout(), h);
