@@ -1,0 +1,3 @@
+pub mod Bloom
+pub mod Calls
+pub mod Parts

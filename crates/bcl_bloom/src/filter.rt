@@ -1,0 +1,81 @@
+//! What the filter is: its sequential object, and what its words mean.
+
+ghost use Rattle.bcl_phase.specs.Views.{opened};
+ghost use Rattle.bcl_phase.specs.Rule.{Kept};
+ghost use Rattle.bcl_bloom.specs.Bloom.{ranks, start, next, permits, fits};
+
+use crate::key::Hashed;
+use atomic_table::TableRule;
+use bcl_event::{FilterCall, FilterReply};
+use bcl_phase::{Any, Grants, Phased, Promise, View};
+use bcl_segment::{Layout, Rule};
+use std::collections::LinkedList;
+use std::marker::PhantomData;
+
+/// The rule of a Bloom filter of keys of one type. What is fixed when it is made is its layout, each place of which is a
+/// block of 64 marks.
+pub struct Filter<K> {
+    of: PhantomData<K>,
+}
+
+impl<K: Hashed> TableRule<(), View<FilterCall<K>, FilterReply, (), Layout>, Layout> for Filter<K> {
+    ghost holds = { Kept ranks start (next K.width K.words) permits (fits K.width) };
+
+    ghost first = { λ k. opened k (ranks k) tt };
+}
+
+impl<K: Hashed> Rule for Filter<K> {
+    type View = View<FilterCall<K>, FilterReply, (), Layout>;
+
+    type Key = Layout;
+}
+
+impl<K: Hashed> Phased for Filter<K> {
+    ghost use Rattle.std.specs.Prelude.{refl};
+
+    type Call = FilterCall<K>;
+
+    type Reply = FilterReply;
+
+    type State = LinkedList<LinkedList<u64>>;
+
+    type Note = ();
+
+    ghost ranks = { ranks };
+
+    ghost start = { start };
+
+    ghost next = { next K.width K.words };
+
+    ghost permits = { permits };
+
+    ghost rest = { tt };
+
+    ghost fits = { fits K.width };
+
+    ghost admits = { λ k p ws t xs few fit. fit };
+
+    ghost releases = { λ k p ws t xs fit. fit };
+
+    ghost begins = { λ k p q ws t fit. fit };
+
+    ghost from = { λ k s kept. kept };
+
+    ghost back = { λ k s kept. kept };
+
+    ghost opens = { λ k. refl };
+}
+
+impl<K: Hashed> Grants<Any> for Filter<K> {}
+
+/// The filter's calls are proved under this promise, so that a phase may run under it.
+pub trait FilterGrants<P: Promise, K>: Grants<P>
+    + Phased<
+        Call = FilterCall<K>,
+        Reply = FilterReply,
+        State = LinkedList<LinkedList<u64>>,
+        Note = (),
+        Key = Layout,
+    > {}
+
+impl<K: Hashed> FilterGrants<Any, K> for Filter<K> {}

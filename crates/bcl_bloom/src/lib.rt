@@ -1,0 +1,28 @@
+//! A Bloom filter of keys, shared by ranks (Brock, Buluç, Yelick, ICPP 2019: their blocked filter).
+//!
+//! Its one contract for the layer above: each call is one event of the filter's history, which is legal for the filter
+//! of `bcl_event`, and stands behind all that its pass had seen. So a key that was inserted, by whichever rank, is found.
+//! An insertion is one `fetch_or`, and a find is one `get`.
+//!
+//! - `filter`: the sequential object, and what the words mean.
+//! - `home`: who has a filter alone; how it is made, and how a phase begins.
+//! - `lead`: who has begun a phase; how it ends, and turns into the next.
+//! - `pass`: the calls.
+//! - `marks`: the four bits of a hash, and the block where they stand.
+//! - `key`: a key as a filter reads it.
+#![tactic(auto)]
+
+mod filter;
+mod home;
+mod key;
+mod lead;
+mod marks;
+mod pass;
+#[cfg(test)]
+mod tests;
+
+pub use filter::{Filter, FilterGrants};
+pub use home::FilterHome;
+pub use key::Hashed;
+pub use lead::FilterLead;
+pub use pass::{FilterCalls, FilterPass};

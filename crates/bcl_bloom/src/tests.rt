@@ -1,0 +1,181 @@
+ghost use Rattle.std.specs.Prelude.{◌≡◌, ◌+◌, ℕ, length, true, IfOk, IfSome, IsNone};
+ghost use mathlib.Core.Option.{some};
+ghost use lib.ListN.{get_elem?};
+ghost use Rattle.std.specs.List.{All};
+ghost use Rattle.bcl_phase.specs.Parts.{pass_view};
+ghost use Rattle.bcl_bloom.specs.Parts.{IsOf};
+
+use crate::marks::bits_of;
+use crate::{FilterCalls, FilterHome, FilterLead, FilterPass, Hashed};
+use bcl_phase::{Always, Any, Kit, superstep};
+use std::alloc::{AllocError, Global};
+use std::test::Fail;
+
+#[test]
+fn keys_mark_these_bits(rt: HostRuntime) {
+    assert_eq!(rt; bits_of(0u64.key_hash()), [0, 0, 0, 0]);
+    assert_eq!(rt; bits_of(1u64.key_hash()), [11, 62, 37, 15]);
+    assert_eq!(rt; bits_of(3u64.key_hash()), [35, 59, 47, 46]);
+}
+
+// What an inserted key is answered, whatever was answered to its insertion.
+fn insert_then_find(pass: &mut FilterPass<Any, u64>, lead: &FilterLead<u64>, key: u64) -> bool
+    requires of { IsOf pass.old lead.now }
+    ensures found { result ≡ true }
+    ensures of { IsOf pass.new lead.now }
+    ensures rank { (pass_view pass.new).rank ≡ (pass_view pass.old).rank }
+{
+    pass.insert(lead, &key);
+    pass.find(lead, &key)
+}
+
+// A rank that inserts a key and then asks for another.
+#[derive(Drop)]
+struct Asker<'a> {
+    lead: &'a FilterLead<u64>,
+    pass: FilterPass<Any, u64>,
+    own: u64,
+    other: u64,
+    own_found: bool,
+    other_found: bool,
+}
+
+impl<'a> Kit for Asker<'a> {
+    ghost use Rattle.bcl_bloom.specs.Parts.{IsOf};
+
+    ghost ready = { λ k. IsOf k.pass k.lead.now };
+
+    ghost step = { λ k l. (l.lead ≡ k.lead) × IsOf l.pass l.lead.now × ((pass_view l.pass).rank ≡ (pass_view k.pass).rank) × (l.own_found ≡ true) };
+
+    fn rank(&self) -> u32 {
+        self.pass.rank()
+    }
+
+    fn part(&mut self) {
+        self.own_found = insert_then_find(&mut self.pass, self.lead, self.own);
+        self.other_found = self.pass.find(self.lead, &self.other);
+    }
+}
+
+// Takes the pass of the last rank.
+fn last_pass(
+    lead: &FilterLead<u64>,
+    passes: &mut Vec<FilterPass<Any, u64>>,
+) -> Option<FilterPass<Any, u64>>
+    requires of { (i : ℕ) (p : _) → get_elem? passes.old.items i ≡ some p → IsOf p lead.now × ((pass_view p).rank ≡ i) }
+    ensures of { (i : ℕ) (p : _) → get_elem? passes.new.items i ≡ some p → IsOf p lead.now × ((pass_view p).rank ≡ i) }
+    ensures last { IfSome result (λ p. IsOf p lead.now × ((pass_view p).rank ≡ length passes.new.items)) }
+    ensures fewer { IfSome result (λ p. length passes.old.items ≡ length passes.new.items + 1) }
+    ensures none { IsNone result → length passes.new.items ≡ length passes.old.items }
+{
+    let Some(pass) = passes.pop() else {
+        return None;
+    };
+    Some(pass)
+}
+
+// A kit for each pass, the last rank first. Each inserts its own key, and asks for the next.
+fn askers<'a>(
+    alloc: Global,
+    lead: &'a FilterLead<u64>,
+    mut passes: Vec<FilterPass<Any, u64>>,
+    first: u64,
+) -> Result<Vec<Asker<'a>>, AllocError>
+    requires of { (i : ℕ) (p : _) → get_elem? passes.items i ≡ some p → IsOf p lead.now × ((pass_view p).rank ≡ i) }
+    ensures ready { IfOk result (λ kits. All (λ k. IsOf k.pass k.lead.now) kits.items) }
+{
+    let mut kits = Vec::new(alloc);
+    while let Some(pass) = last_pass(lead, &mut passes) {
+        let own = first.wrapping_add(u64::from(pass.rank()));
+        kits.push(Asker {
+            lead,
+            pass,
+            own,
+            other: own.wrapping_add(1000),
+            own_found: false,
+            other_found: false,
+        })?;
+    }
+    Ok(kits)
+}
+
+#[test]
+fn ranks_find_what_they_insert_side_by_side(rt: HostRuntime) -> Result<(), Fail> {
+    let home = FilterHome::<u64>::new(rt.alloc(), 4, 256)?;
+    let Ok((lead, passes)) = home.begin::<Any>(rt.alloc()) else {
+        return Err(Fail::new("no memory"));
+    };
+    let mut kits = askers(rt.alloc(), &lead, passes, 7)?;
+    superstep(&rt, kits.as_mut_slice(), &Always);
+    let mut own = 0u32;
+    let mut others = 0u32;
+    for kit in kits.as_slice() {
+        if kit.own_found {
+            own = own.wrapping_add(1);
+        }
+        if kit.other_found {
+            others = others.wrapping_add(1);
+        }
+    }
+    assert_eq!(rt; own, 4);
+    assert_eq!(rt; others, 0);
+    Ok(())
+}
+
+// Each rank inserts a key, the last rank last.
+fn each_inserts(
+    lead: &FilterLead<u64>,
+    passes: &mut Vec<FilterPass<Any, u64>>,
+    first: u64,
+) -> Result<(), AllocError>
+    requires of { (i : ℕ) (p : _) → get_elem? passes.old.items i ≡ some p → IsOf p lead.now × ((pass_view p).rank ≡ i) }
+    ensures of { IfOk result (λ _. (i : ℕ) (p : _) → get_elem? passes.new.items i ≡ some p → IsOf p lead.now × ((pass_view p).rank ≡ i)) }
+    ensures all { IfOk result (λ _. length passes.new.items ≡ length passes.old.items) }
+{
+    let Some(mut pass) = last_pass(lead, passes) else {
+        return Ok(());
+    };
+    let key = first.wrapping_add(u64::from(pass.rank()));
+    each_inserts(lead, passes, first)?;
+    pass.insert(lead, &key);
+    passes.push(pass)?;
+    Ok(())
+}
+
+// How many of the ranks find a key.
+fn finders(
+    lead: &FilterLead<u64>,
+    passes: &mut Vec<FilterPass<Any, u64>>,
+    key: u64,
+) -> Result<u32, AllocError>
+    requires of { (i : ℕ) (p : _) → get_elem? passes.old.items i ≡ some p → IsOf p lead.now × ((pass_view p).rank ≡ i) }
+    ensures of { IfOk result (λ _. (i : ℕ) (p : _) → get_elem? passes.new.items i ≡ some p → IsOf p lead.now × ((pass_view p).rank ≡ i)) }
+    ensures all { IfOk result (λ _. length passes.new.items ≡ length passes.old.items) }
+{
+    let Some(mut pass) = last_pass(lead, passes) else {
+        return Ok(0);
+    };
+    let found = finders(lead, passes, key)?;
+    let here = pass.find(lead, &key);
+    passes.push(pass)?;
+    Ok(found.wrapping_add(u32::from(here)))
+}
+
+#[test]
+fn all_ranks_find_after_a_turn_what_each_inserted(rt: HostRuntime) -> Result<(), Fail> {
+    let home = FilterHome::<u64>::new(rt.alloc(), 4, 256)?;
+    let Ok((lead, mut passes)) = home.begin::<Any>(rt.alloc()) else {
+        return Err(Fail::new("no memory"));
+    };
+    each_inserts(&lead, &mut passes, 7)?;
+    let Ok((lead, mut passes)) = lead.turn::<Any, Any>(rt.alloc(), passes) else {
+        return Err(Fail::new("no memory"));
+    };
+    assert_eq!(rt; finders(&lead, &mut passes, 7)?, 4);
+    assert_eq!(rt; finders(&lead, &mut passes, 8)?, 4);
+    assert_eq!(rt; finders(&lead, &mut passes, 9)?, 4);
+    assert_eq!(rt; finders(&lead, &mut passes, 10)?, 4);
+    assert_eq!(rt; finders(&lead, &mut passes, 1007)?, 0);
+    lead.end::<Any>(passes);
+    Ok(())
+}
