@@ -5,7 +5,7 @@ use Rattle.std.specs.Int.{w64, bit_at}
 use Rattle.std.proofs.lemmas.Bool.{cases_Bool, false≢true}
 use Rattle.std.proofs.lemmas.Bool.Decides.{Decides-eqb}
 use Rattle.std.proofs.lemmas.Nat.Bits.{bit_at_set_same, bit_at_set_other, bit_at_or, bit_at-lt, bit_at-zero}
-use Rattle.bcl_event.specs.Filter.{has_bit}
+use Rattle.bcl_event.specs.SeqFilter.{has_bit}
 
 pub has_bit-set : (bits bit other : ℕ) → bit < 64 → has_bit (bit_or bits (1 * 2 ^ bit % 2 ^ 64)) other ≡ ((other == bit) || has_bit bits other)
 has_bit-set bits bit other low = ⊎_elim same apart (cases_Bool (other == bit))

@@ -13,7 +13,8 @@ use Rattle.bcl_segment.specs.declared.layout.Spot.{Spot}
 use Rattle.bcl_segment.specs.Places.{places, word_at}
 use Rattle.bcl_event.specs.declared.filter.FilterCall.{FilterCall}
 use Rattle.bcl_event.specs.declared.filter.FilterCall.TheVariants.{Insert, Find}
-use Rattle.bcl_event.specs.Filter.{Mark, is_mark, is_marked, marks_of, four_bits, has_bit, presence}
+use Rattle.bcl_event.specs.Filter.{Mark, is_mark, is_marked, marks_of, four_bits, presence}
+use Rattle.bcl_event.specs.SeqFilter.{has_bit}
 use Rattle.bcl_event.specs.Promises.{Permits, filter_permits}
 use Rattle.bcl_event.specs.History.{event}
 use Rattle.bcl_phase.specs.Views.{Tick}

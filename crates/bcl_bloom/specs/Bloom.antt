@@ -5,7 +5,8 @@ use Rattle.bcl_segment.specs.declared.layout.Layout.{Layout}
 use Rattle.bcl_segment.specs.Places.{places}
 use Rattle.bcl_event.specs.declared.filter.FilterCall.{FilterCall}
 use Rattle.bcl_event.specs.declared.filter.FilterReply.{FilterReply}
-use Rattle.bcl_event.specs.Filter.{Mark, filter_step, filter_call, is_marked, has_bit}
+use Rattle.bcl_event.specs.Filter.{Mark, filter_step, filter_call, is_marked}
+use Rattle.bcl_event.specs.SeqFilter.{has_bit}
 use Rattle.bcl_event.specs.Promises.{Permits, filter_permits}
 
 abbrev pub ranks : Layout → ℕ

@@ -7,7 +7,8 @@ use Rattle.bcl_event.specs.declared.event.Event.{Event}
 use Rattle.bcl_event.specs.declared.filter.FilterCall.{FilterCall}
 use Rattle.bcl_event.specs.declared.filter.FilterCall.TheVariants.{Insert}
 use Rattle.bcl_event.specs.declared.filter.FilterReply.{FilterReply}
-use Rattle.bcl_event.specs.Filter.{four_bits, has_bit, presence}
+use Rattle.bcl_event.specs.Filter.{four_bits, presence}
+use Rattle.bcl_event.specs.SeqFilter.{has_bit}
 use Rattle.bcl_phase.specs.declared.view.View.{View}
 use Rattle.bcl_phase.specs.Stands as phase
 use Rattle.bcl_bloom.specs.Bloom.{ranks, start, next, permits}

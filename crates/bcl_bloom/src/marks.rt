@@ -3,7 +3,8 @@
 ghost use Rattle.std.specs.Prelude.{◌≡◌, ◌≤◌, ◌<◌, ◌%◌, ◌^◌, ◌==◌, ◌||◌, ℕ};
 ghost use Rattle.std.specs.List.{All, list_all, list_any};
 ghost use Rattle.bcl_segment.specs.Places.{places, word_at, IsSpot};
-ghost use Rattle.bcl_event.specs.Filter.{four_bits, has_bit};
+ghost use Rattle.bcl_event.specs.Filter.{four_bits};
+ghost use Rattle.bcl_event.specs.SeqFilter.{has_bit};
 
 use bcl_segment::{Layout, Spot};
 

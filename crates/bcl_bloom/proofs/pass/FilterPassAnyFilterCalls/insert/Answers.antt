@@ -5,7 +5,8 @@ use Rattle.std.specs.List.{list_any}
 use Rattle.bcl_words.specs.Hash.{hash_of}
 use Rattle.bcl_segment.specs.Places.{places}
 use Rattle.bcl_event.specs.declared.filter.FilterCall.TheVariants.{Insert}
-use Rattle.bcl_event.specs.Filter.{four_bits, has_bit}
+use Rattle.bcl_event.specs.Filter.{four_bits}
+use Rattle.bcl_event.specs.SeqFilter.{has_bit}
 use Rattle.bcl_phase.specs.Views.{atomic}
 use Rattle.bcl_phase.specs.Parts.{lead_key, lead_heads, lead_layout, pass_view}
 use Rattle.bcl_bloom.proofs.Blocks.{block_is, block_within, inserts, answers_stand}
