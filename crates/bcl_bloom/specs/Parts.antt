@@ -3,12 +3,11 @@
 use Rattle.std.specs.Prelude.{◌≡◌, Some}
 use Rattle.atomic_table.specs.Seated.{TableId}
 use Rattle.bcl_segment.specs.declared.layout.Layout.{Layout}
-use Rattle.bcl_segment.specs.Parts.{table_of}
 use Rattle.bcl_phase.specs.declared.view.View.{View}
-use Rattle.bcl_phase.specs.declared.pass.Pass.{Pass}
 use Rattle.bcl_phase.specs.Parts as phase
 use Rattle.bcl_bloom.specs.declared.home.FilterHome.{FilterHome}
 use Rattle.bcl_bloom.specs.declared.lead.FilterLead.{FilterLead}
+use Rattle.bcl_bloom.specs.declared.pass.FilterPass.{FilterPass}
 
 module _ {K C A T X : Type 0} {g : _} where
   abbrev pub home_view : FilterHome K C A T X g → View C A X Layout
@@ -44,12 +43,10 @@ module _ {K C A T X : Type 0} {g : _} where
   abbrev pub IsSameLead : FilterLead K C A T X g → FilterLead K C A T X g → Type 0
   IsSameLead old new = phase.IsSameLead old.lead new.lead
 
-module _ {R P C A T X : Type 0} {g t p : _} where
-  -- a pass steps on these words, which have this key and this layout
-  abbrev pub IsAt : Pass R P C A T X Layout g t p → TableId → Layout → Layout → Type 0
-  IsAt pass id key layout = (table_of pass.seat ≡ id) × ((phase.pass_view pass).key ≡ Some key) × (pass.layout ≡ layout)
+module _ {P K C A T X : Type 0} {g t p : _} where
+  abbrev pub pass_view : FilterPass P K C A T X g t p → View C A X Layout
+  pass_view pass = phase.pass_view pass.pass
 
   -- the pass was made together with the lead
-  module _ {K C' A' T' X' : Type 0} {g' : _} where
-    abbrev pub IsOf : Pass R P C A T X Layout g t p → FilterLead K C' A' T' X' g' → Type 0
-    IsOf pass lead = IsAt pass (lead_id lead) (lead_key lead) (lead_layout lead)
+  abbrev pub IsOf : {h : _} → FilterPass P K C A T X g t p → FilterLead K C A T X h → Type 0
+  IsOf pass lead = phase.IsOf pass.pass lead.lead

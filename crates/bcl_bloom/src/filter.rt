@@ -4,11 +4,11 @@ ghost use Rattle.bcl_phase.specs.Views.{opened};
 ghost use Rattle.bcl_phase.specs.Rule.{Kept};
 ghost use Rattle.bcl_bloom.specs.Bloom.{ranks, start, next, permits, fits};
 
-use crate::key::Hashed;
 use atomic_table::TableRule;
 use bcl_event::{FilterCall, FilterReply};
 use bcl_phase::{Any, Grants, Phased, Promise, View};
 use bcl_segment::{Layout, Rule};
+use bcl_words::Object;
 use std::collections::LinkedList;
 use std::marker::PhantomData;
 
@@ -18,19 +18,19 @@ pub struct Filter<K> {
     of: PhantomData<K>,
 }
 
-impl<K: Hashed> TableRule<(), View<FilterCall<K>, FilterReply, (), Layout>, Layout> for Filter<K> {
-    ghost holds = { Kept ranks start (next K.width K.words) permits (fits K.width) };
+impl<K: Object> TableRule<(), View<FilterCall<K>, FilterReply, (), Layout>, Layout> for Filter<K> {
+    ghost holds = { Kept ranks start (next K.WORDS K.words) permits (fits K.WORDS) };
 
     ghost first = { λ k. opened k (ranks k) tt };
 }
 
-impl<K: Hashed> Rule for Filter<K> {
+impl<K: Object> Rule for Filter<K> {
     type View = View<FilterCall<K>, FilterReply, (), Layout>;
 
     type Key = Layout;
 }
 
-impl<K: Hashed> Phased for Filter<K> {
+impl<K: Object> Phased for Filter<K> {
     ghost use Rattle.std.specs.Prelude.{refl};
 
     type Call = FilterCall<K>;
@@ -45,13 +45,13 @@ impl<K: Hashed> Phased for Filter<K> {
 
     ghost start = { start };
 
-    ghost next = { next K.width K.words };
+    ghost next = { next K.WORDS K.words };
 
     ghost permits = { permits };
 
     ghost rest = { tt };
 
-    ghost fits = { fits K.width };
+    ghost fits = { fits K.WORDS };
 
     ghost admits = { λ k p ws t xs few fit. fit };
 
@@ -66,7 +66,7 @@ impl<K: Hashed> Phased for Filter<K> {
     ghost opens = { λ k. refl };
 }
 
-impl<K: Hashed> Grants<Any> for Filter<K> {}
+impl<K: Object> Grants<Any> for Filter<K> {}
 
 /// The filter's calls are proved under this promise, so that a phase may run under it.
 pub trait FilterGrants<P: Promise, K>: Grants<P>
@@ -78,4 +78,4 @@ pub trait FilterGrants<P: Promise, K>: Grants<P>
         Key = Layout,
     > {}
 
-impl<K: Hashed> FilterGrants<Any, K> for Filter<K> {}
+impl<K: Object> FilterGrants<Any, K> for Filter<K> {}

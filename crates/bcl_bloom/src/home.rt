@@ -4,12 +4,11 @@ ghost use Rattle.bcl_phase.specs.Parts.{home_key, home_layout, home_heads};
 ghost use Rattle.bcl_bloom.specs.Bloom.{IsShaped};
 
 use crate::filter::{Filter, FilterGrants};
-use crate::key::Hashed;
 use crate::lead::FilterLead;
 use crate::pass::FilterPass;
 use bcl_phase::{Home, Phased, Promise, Refused};
 use bcl_segment::Layout;
-use bcl_words::NoMemory;
+use bcl_words::{NoMemory, Object};
 use std::alloc::Global;
 
 /// A filter that one caller has alone: no pass is out.
@@ -22,21 +21,20 @@ where
     ghost shape: { IsShaped (home_heads home) (home_layout home) (home_key home) },
 }
 
-impl<K: Hashed> FilterHome<K> {
+impl<K: Object> FilterHome<K> {
     ghost use Rattle.std.specs.Prelude.{◌≡◌, ◌*◌, ◌≤◌, ◌^◌, ℕ, length, IfOk, IfErr};
     ghost use mathlib.Core.Option.{some};
     ghost use lib.ListN.{get_elem?};
     ghost use Rattle.bcl_words.specs.Words.{Fits};
     ghost use Rattle.bcl_phase.specs.Views.{opened};
     ghost use Rattle.bcl_phase.specs.Phases.{begun};
-    ghost use Rattle.bcl_phase.specs.Parts.{pass_view};
     ghost use Rattle.bcl_bloom.specs.Parts as filter;
 
     /// A filter that holds nothing, of `ranks * per_rank` blocks of one word, each with 64 marks. It makes no step.
     ///
     /// Condition: a key fits; there are 1 to 64 ranks and 1 to 2^27 blocks.
     pub fn new(alloc: Global, ranks: u32, per_rank: u32) -> Result<FilterHome<K>, NoMemory>
-        requires fits { Fits K.width }
+        requires fits { Fits K.WORDS }
         requires ranks { (1 ≤ ranks) × (ranks ≤ 64) }
         requires blocks { (1 ≤ ranks * per_rank) × (ranks * per_rank ≤ 2 ^ 27) }
         ensures empty { IfOk result (λ h. filter.home_view h ≡ opened (record { ranks = ranks; per_rank = per_rank }) ranks tt) }
@@ -60,12 +58,12 @@ impl<K: Hashed> FilterHome<K> {
     where
         Filter<K>: FilterGrants<P, K>,
         ensures count { IfOk result (λ r. length r.1.items ≡ (filter.home_layout self).ranks) }
-        ensures begun { IfOk result (λ r. (i : ℕ) (p : _) → get_elem? r.1.items i ≡ some p → pass_view p ≡ begun tt P.CODE (filter.home_key self) (filter.home_view self).seen i) }
+        ensures begun { IfOk result (λ r. (i : ℕ) (p : _) → get_elem? r.1.items i ≡ some p → filter.pass_view p ≡ begun tt P.CODE (filter.home_key self) (filter.home_view self).seen i) }
         ensures of { IfOk result (λ r. (i : ℕ) (p : _) → get_elem? r.1.items i ≡ some p → filter.IsOf p r.0) }
         ensures lead { IfOk result (λ r. filter.IsLeadOf r.0 self × ((filter.lead_view r.0).start ≡ (filter.home_view self).seen) × ((filter.lead_view r.0).promise ≡ P.CODE)) }
         ensures refused { IfErr result (λ e. filter.IsUnchanged self e.home) }
     {
-        match self.home.begin::<P>(alloc) {
+        match self.home.begin::<P, FilterPass<P, K>>(alloc) {
             Ok((lead, passes)) => Ok((FilterLead { lead }, passes)),
             Err(refused) => Err(Refused {
                 home: FilterHome { home: refused.home },

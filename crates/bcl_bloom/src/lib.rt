@@ -7,14 +7,12 @@
 //! - `filter`: the sequential object, and what the words mean.
 //! - `home`: who has a filter alone; how it is made, and how a phase begins.
 //! - `lead`: who has begun a phase; how it ends, and turns into the next.
-//! - `pass`: the calls.
+//! - `pass`: one rank's part, and its calls.
 //! - `marks`: the four bits of a hash, and the block where they stand.
-//! - `key`: a key as a filter reads it.
 #![tactic(auto)]
 
 mod filter;
 mod home;
-mod key;
 mod lead;
 mod marks;
 mod pass;
@@ -23,6 +21,5 @@ mod tests;
 
 pub use filter::{Filter, FilterGrants};
 pub use home::FilterHome;
-pub use key::Hashed;
 pub use lead::FilterLead;
-pub use pass::{FilterCalls, FilterPass};
+pub use pass::FilterPass;

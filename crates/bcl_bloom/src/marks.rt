@@ -1,12 +1,24 @@
 //! The marks of a hash: four bits of one block.
 
-ghost use Rattle.std.specs.Prelude.{◌≡◌, ◌≤◌, ◌<◌, ◌%◌, ◌^◌, ◌==◌, ◌||◌, ℕ};
+ghost use Rattle.std.specs.Prelude.{◌≡◌, ◌≤◌, ◌<◌, ◌%◌, ◌^◌, ◌==◌, ◌||◌, ℕ, take};
 ghost use Rattle.std.specs.List.{All, list_all, list_any};
+ghost use Rattle.bcl_words.specs.Words.{Fits};
+ghost use Rattle.bcl_words.specs.Hash.{hash_of};
 ghost use Rattle.bcl_segment.specs.Places.{places, word_at, IsSpot};
 ghost use Rattle.bcl_event.specs.Filter.{four_bits};
 ghost use Rattle.bcl_event.specs.SeqFilter.{has_bit};
 
 use bcl_segment::{Layout, Spot};
+use bcl_words::{Object, hash};
+
+/// The hash of a key's own words.
+#[inline(always)]
+pub(crate) fn key_hash<K: Object>(key: &K) -> u64
+    requires fits { Fits K.WORDS }
+    ensures hash { result ≡ hash_of (take K.WORDS (K.words key.now)) }
+{
+    hash(&key.to_words()[..K::WORDS])
+}
 
 /// Where the block of a hash stands. There are no head words.
 #[inline(always)]

@@ -2,20 +2,19 @@ ghost use Rattle.std.specs.Prelude.{◌≡◌, ◌+◌, ℕ, length, true, IfOk,
 ghost use mathlib.Core.Option.{some};
 ghost use lib.ListN.{get_elem?};
 ghost use Rattle.std.specs.List.{All};
-ghost use Rattle.bcl_phase.specs.Parts.{pass_view};
-ghost use Rattle.bcl_bloom.specs.Parts.{IsOf};
+ghost use Rattle.bcl_bloom.specs.Parts.{pass_view, IsOf};
 
-use crate::marks::bits_of;
-use crate::{FilterCalls, FilterHome, FilterLead, FilterPass, Hashed};
+use crate::marks::{bits_of, key_hash};
+use crate::{FilterHome, FilterLead, FilterPass};
 use bcl_phase::{Always, Any, Kit, superstep};
 use std::alloc::{AllocError, Global};
 use std::test::Fail;
 
 #[test]
 fn keys_mark_these_bits(rt: HostRuntime) {
-    assert_eq!(rt; bits_of(0u64.key_hash()), [0, 0, 0, 0]);
-    assert_eq!(rt; bits_of(1u64.key_hash()), [11, 62, 37, 15]);
-    assert_eq!(rt; bits_of(3u64.key_hash()), [35, 59, 47, 46]);
+    assert_eq!(rt; bits_of(key_hash(&0u64)), [0, 0, 0, 0]);
+    assert_eq!(rt; bits_of(key_hash(&1u64)), [11, 62, 37, 15]);
+    assert_eq!(rt; bits_of(key_hash(&3u64)), [35, 59, 47, 46]);
 }
 
 // What an inserted key is answered, whatever was answered to its insertion.

@@ -5,12 +5,12 @@ use Rattle.std.proofs.lemmas.List.Elements.{All-nil, All-append}
 use mathlib.Core.List.{IsPrefix, append-nil, append_assoc}
 use base.Growing.{prefix_refl, prefix_trans}
 use Rattle.bcl_event.specs.declared.event.Event.{Event}
-use Rattle.bcl_event.specs.History.{event, state_after, events}
+use Rattle.bcl_event.specs.History.{of, event, state_after, IsLegal, events}
 use Rattle.bcl_phase.specs.declared.view.View.{View}
 use Rattle.bcl_phase.specs.Views.{Tick, get, put, atomic, gets_after, puts_after, atomics_after, seen_by}
 use Rattle.bcl_phase.specs.Rule.{IsPermitted}
 use Rattle.bcl_phase.specs.Told.{Took, Told}
-use Rattle.bcl_phase.specs.Stands.{GoesOn, Sees, Goes, Stands, Ran}
+use Rattle.bcl_phase.specs.Stands.{GoesOn, Still, Sees, Goes, Stands, Ran}
 
 -- a count never falls
 gets_risen : (t : Tick) (n : ℕ) → n ≤ gets_after t n
@@ -42,6 +42,12 @@ module _ {C A X K : Type 0} where
     puts_rise = omega arith;
     atomics_rise = omega arith;
   }
+
+  pub still_refl : (v : View C A X K) → Still v v
+  still_refl v = record { seen = refl; mine = refl; same = goes_on_refl v }
+
+  pub still_trans : (u v w : View C A X K) → Still u v → Still v w → Still u w
+  still_trans u v w a b = record { seen = b.seen ∙ a.seen; mine = b.mine ∙ a.mine; same = goes_on_trans u v w a.same b.same }
 
 module _ {C A X K : Type 0} (ranks : K → ℕ) (permits : K → ℕ → ℕ → C → Type 0) (k : K) where
   pub sees_refl : (v : View C A X K) → Sees ranks permits k v v
@@ -101,37 +107,43 @@ module _ {C A X K T : Type 0} (ranks : K → ℕ) (start : K → T) (next : K �
       (ap (events (next k) v.rank (state_after (next k) (start k) told.history)) one ∙ (λ i. event v.rank c (reply i) ∷ [])) (stands_by tick v w then n took told)
 
   -- a step that makes none
-  pub stands_none : (tick : Tick) (v w : View C A X K) (then : ℕ → T → List C → X → Type 0) (n : ℕ) → Took ranks start next permits k tick v w → (told : Told start next k v then n w)
-      → told.did ≡ [] → Stands ranks start next permits k v w []
-  stands_none tick v w then n took told none = subst (Stands ranks start next permits k v w)
-      (ap (events (next k) v.rank (state_after (next k) (start k) told.history)) none) (stands_by tick v w then n took told)
+  pub still_by : (tick : Tick) (v w : View C A X K) (then : ℕ → T → List C → X → Type 0) (n : ℕ) → Took ranks start next permits k tick v w → (told : Told start next k v then n w) → told.did ≡ [] → Still v w
+  still_by tick v w then n took told none = let es = ap (events (next k) v.rank (state_after (next k) (start k) told.history)) none in record {
+    seen = told.seen ∙ ap (seen_by v.seen told.history) es;
+    mine = told.mine ∙ (ap (λ (z : List (Event C A)). v.mine ++ z) es ∙ append-nil v.mine);
+    same = (stands_by tick v w then n took told).same;
+  }
 
   -- steps that make no call come before
-  pub stands_after : (u v w : View C A X K) (es : List (Event C A)) → Stands ranks start next permits k u v [] → Stands ranks start next permits k v w es → Stands ranks start next permits k u w es
-  stands_after u v w es a b = record {
+  pub stands_behind : (u v w : View C A X K) (es : List (Event C A)) → Still u v → Stands ranks start next permits k v w es → Stands ranks start next permits k u w es
+  stands_behind u v w es a b = record {
     legal = b.legal;
     before = b.before;
     last = b.last;
-    behind = subst (λ (z : List (Event C A)). IsPrefix z b.before) (a.none refl) b.behind;
-    none = λ e. b.none e ∙ a.none refl;
-    mine = b.mine ∙ ap (λ (z : List (Event C A)). z ++ es) (a.mine ∙ append-nil u.mine);
+    behind = subst (λ (z : List (Event C A)). IsPrefix z b.before) a.seen b.behind;
+    none = λ e. b.none e ∙ a.seen;
+    mine = b.mine ∙ ap (λ (z : List (Event C A)). z ++ es) a.mine;
     own = b.own;
     same = goes_on_trans u v w a.same b.same;
-    sees = sees_trans ranks permits k u v w a.same.same_promise a.sees b.sees;
+    sees = record {
+      late = b.sees.late;
+      grows = b.sees.grows ∙ ap (λ (z : List (Event C A)). z ++ b.sees.late) a.seen;
+      permitted = subst (λ (z : ℕ). All (IsPermitted ranks permits k z) b.sees.late) a.same.same_promise b.sees.permitted;
+    };
   }
 
-  -- steps that make no call come behind
-  pub stands_still : (u v w : View C A X K) (es : List (Event C A)) → Stands ranks start next permits k u v es → Stands ranks start next permits k v w [] → Stands ranks start next permits k u w es
+  -- steps that make no call come after
+  pub stands_still : (u v w : View C A X K) (es : List (Event C A)) → Stands ranks start next permits k u v es → Still v w → Stands ranks start next permits k u w es
   stands_still u v w es a b = record {
-    legal = b.legal;
+    legal = subst (IsLegal (next k) (start k)) (sym b.seen) a.legal;
     before = a.before;
-    last = b.none refl ∙ a.last;
+    last = b.seen ∙ a.last;
     behind = a.behind;
-    none = λ e. b.none refl ∙ a.none e;
-    mine = b.mine ∙ (append-nil v.mine ∙ a.mine);
-    own = b.own;
+    none = λ e. b.seen ∙ a.none e;
+    mine = b.mine ∙ a.mine;
+    own = (λ i. of (b.same.same_rank i) (b.seen i)) ∙ (a.own ∙ sym b.mine);
     same = goes_on_trans u v w a.same b.same;
-    sees = sees_trans ranks permits k u v w a.same.same_promise a.sees b.sees;
+    sees = record { late = a.sees.late; grows = b.seen ∙ a.sees.grows; permitted = a.sees.permitted };
   }
 
   pub stands_goes : (v w : View C A X K) (es : List (Event C A)) → Stands ranks start next permits k v w es → Goes ranks permits k v w

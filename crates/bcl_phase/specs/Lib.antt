@@ -4,4 +4,5 @@ pub mod Told
 pub mod Seats
 pub mod Phases
 pub mod Stands
+pub mod Flights
 pub mod Parts

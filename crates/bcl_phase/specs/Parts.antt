@@ -58,6 +58,10 @@ HasSpot lead spot = segment.HasSpot lead.segments spot
 abbrev pub pass_view : {R P C A T X K : Type 0} {g : _} {t : _} {p : _} → Pass R P C A T X K g t p → View C A X K
 pass_view pass = segment.view_of pass.seat
 
+-- which segments it is of
+abbrev pub pass_table : {R P C A T X K : Type 0} {g : _} {t : _} {p : _} → Pass R P C A T X K g t p → TableId
+pass_table pass = segment.table_of pass.seat
+
 abbrev pub pass_layout : {R P C A T X K : Type 0} {g : _} {t : _} {p : _} → Pass R P C A T X K g t p → Layout
 pass_layout pass = pass.layout
 

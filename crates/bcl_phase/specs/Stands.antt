@@ -19,6 +19,12 @@ module _ {C A X K : Type 0} where
     pub puts_rise : old.puts ≤ new.puts
     pub atomics_rise : old.atomics ≤ new.atomics
 
+  -- steps that make no call
+  pub record Still (old new : View C A X K) : Type 0 where
+    pub seen : new.seen ≡ old.seen
+    pub mine : new.mine ≡ old.mine
+    pub same : GoesOn old new
+
 module _ {C A X K : Type 0} (ranks : K → ℕ) (permits : K → ℕ → ℕ → C → Type 0) where
   -- what the pass has come to see: events that the promise permits, of whichever rank
   pub record Sees (k : K) (old new : View C A X K) : Type 0 where

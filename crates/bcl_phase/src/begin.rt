@@ -8,11 +8,11 @@ ghost use Rattle.bcl_segment.specs.Parts.{layout_of, key_of, table_of, id_of, vi
 ghost use Rattle.bcl_phase.specs.Views.{opened};
 ghost use Rattle.bcl_phase.specs.Seats.{IsHomeSeat};
 ghost use Rattle.bcl_phase.specs.Phases.{begun};
-ghost use Rattle.bcl_phase.specs.Parts.{home_view, home_key, home_layout, home_heads, lead_view, pass_view, IsOf, IsLeadOf};
+ghost use Rattle.bcl_phase.specs.Parts.{home_view, home_key, home_layout, home_heads, lead_view, pass_view, pass_table, pass_layout, IsOf, IsLeadOf};
 
 use crate::home::{Owned, first_spot};
 use crate::told::{Cuts, Turns};
-use crate::{Grants, Home, Lead, Pass, Phased, Promise, Refused};
+use crate::{Grants, Home, Lead, Pass, Phased, Promise, Refused, Wraps};
 use bcl_segment::{Layout, Seat, Segments};
 use bcl_words::NoMemory;
 use std::alloc::Global;
@@ -56,15 +56,18 @@ impl<R: Phased> Home<R> {
     ///
     /// One load of the first word, and a split for each rank. It refuses for want of memory alone, before any step, and
     /// hands the home back unchanged.
-    pub fn begin<P: Promise>(
+    ///
+    /// `W` is the container's own pass. Condition: it can hold each of these.
+    pub fn begin<P: Promise, W: Wraps<Inner = Pass<R, P>>>(
         self,
         alloc: Global,
-    ) -> Result<(Lead<R>, Vec<Pass<R, P>>), Refused<Home<R>>>
+    ) -> Result<(Lead<R>, Vec<W>), Refused<Home<R>>>
     where
         R: Grants<P>,
+        requires takes { (rank : ℕ) (p : _) → pass_view p ≡ begun R.rest P.CODE (home_key self) (home_view self).seen rank → pass_layout p ≡ home_layout self → W.takes p }
         ensures count { IfOk result (λ r. length r.1.items ≡ (home_layout self).ranks) }
-        ensures begun { IfOk result (λ r. (i : ℕ) (p : _) → get_elem? r.1.items i ≡ some p → pass_view p ≡ begun R.rest P.CODE (home_key self) (home_view self).seen i) }
-        ensures of { IfOk result (λ r. (i : ℕ) (p : _) → get_elem? r.1.items i ≡ some p → IsOf p r.0) }
+        ensures begun { IfOk result (λ r. (i : ℕ) (p : _) → get_elem? r.1.items i ≡ some p → pass_view (W.inner p) ≡ begun R.rest P.CODE (home_key self) (home_view self).seen i) }
+        ensures of { IfOk result (λ r. (i : ℕ) (p : _) → get_elem? r.1.items i ≡ some p → IsOf (W.inner p) r.0) }
         ensures lead { IfOk result (λ r. IsLeadOf r.0 self × ((lead_view r.0).start ≡ (home_view self).seen) × ((lead_view r.0).promise ≡ P.CODE)) }
         ensures refused { IfErr result (λ e. e.home ≡ self) }
     {
@@ -79,7 +82,7 @@ impl<R: Phased> Home<R> {
         } = self.owned;
         let first = first_spot::<R>(&segments, heads);
         segments.get::<Turns<R, P>>(&mut seat, first);
-        let passes = deal::<R, P>(&segments, &mut seat, layout, passes);
+        let passes = deal::<R, P, W>(&segments, &mut seat, layout, passes);
         Ok((
             Lead {
                 segments,
@@ -93,23 +96,24 @@ impl<R: Phased> Home<R> {
 }
 
 // Splits off a pass for each rank, upward.
-fn deal<R: Phased, P: Promise>(
+fn deal<R: Phased, P: Promise, W: Wraps<Inner = Pass<R, P>>>(
     segments: &Segments<R>,
     seat: &mut Seat<R>,
     layout: Layout,
-    mut passes: Vec<Pass<R, P>>,
-) -> Vec<Pass<R, P>>
+    mut passes: Vec<W>,
+) -> Vec<W>
     requires home { IsHomeSeat segments.now seat.old × (layout ≡ layout_of segments.now) }
     requires begins { ((view_of seat.old).promise ≡ P.CODE) × ((view_of seat.old).back ≡ []) × ((view_of seat.old).passes ≡ 0) }
+    requires takes { (rank : ℕ) (p : _) → pass_view p ≡ begun R.rest P.CODE (key_of segments.now) (view_of seat.old).seen rank → pass_layout p ≡ layout → W.takes p }
     requires room { (passes.items ≡ []) × (layout.ranks ≤ vec_capacity passes) }
     ensures seat { IsSameSeat seat.old seat.new }
     ensures view { view_of seat.new ≡ record (view_of seat.old) { passes = layout.ranks } }
     ensures count { length result.items ≡ layout.ranks }
-    ensures passes { (i : ℕ) (p : _) → get_elem? result.items i ≡ some p → (table_of p.seat ≡ id_of segments.now) × (p.layout ≡ layout) × (pass_view p ≡ begun R.rest P.CODE (key_of segments.now) (view_of seat.old).seen i) }
+    ensures passes { (i : ℕ) (p : _) → get_elem? result.items i ≡ some p → (pass_table (W.inner p) ≡ id_of segments.now) × (pass_layout (W.inner p) ≡ layout) × (pass_view (W.inner p) ≡ begun R.rest P.CODE (key_of segments.now) (view_of seat.old).seen i) }
 {
     for rank in 0..layout.ranks {
         let pass = segments.split::<Cuts<R>>(seat);
-        let Ok(()) = passes.push(Pass::seated(pass, rank, layout)) else {
+        let Ok(()) = passes.push(W::wrap(Pass::seated(pass, rank, layout))) else {
             unreachable!()
         };
     }

@@ -6,10 +6,10 @@
 //! rank gets a [`Pass`], and a [`Lead`] that all ranks share ends the phase. Between two phases nobody holds a pass, so
 //! the end of one is a barrier.
 //!
-//!     let (lead, passes) = home.begin::<Any>(alloc)?;           // a pass for each rank
+//!     let (lead, passes) = home.begin::<Any, _>(alloc)?;        // a pass for each rank
 //!     superstep(&rt, &mut kits, &Always);                       // each rank's part, side by side
-//!     let (lead, passes) = lead.turn::<Any, Own>(alloc, passes)?;
-//!     let home = lead.end::<Own>(passes);                       // the home has seen the whole history
+//!     let (lead, passes) = lead.turn::<Any, Own, _, _>(alloc, passes)?;
+//!     let home = lead.end::<Own, _>(passes);                       // the home has seen the whole history
 //!
 //! Its one contract for the layers above: whatever the container and the order of steps, there is one history, legal for
 //! the sequential object. Each pass has seen a front of it, and its own rank's events there are those of its calls. What
@@ -21,10 +21,12 @@
 //! - `view`: what a seat knows. `specs/Views.antt` says how views change.
 //! - `phased`: what a container says of itself, and `specs/Rule.antt` the rule that its words keep.
 //! - `promise`: the nine promises.
-//! - `home`, `lead`, `pass`: the three who hold seats. `specs/Parts.antt` says what a contract sees of them.
+//! - `home`, `lead`, `pass`: the three who hold seats. `specs/Parts.antt` says what a contract sees of them. `wraps`: a
+//!   container's own pass, over that of the phase.
 //! - `begin`, `end`, `turn`: how a phase begins and ends, by `specs/Phases.antt`.
 //! - `learns`, `steps`: the steps of a pass, and what each tells, by `specs/Told.antt`. `alone`: the steps of a home.
 //! - `specs/Stands.antt`: what the contract of every container's call cites.
+//! - `flight`: a call in flight on an object of several words, and `specs/Flights.antt` where such words stand.
 //! - `kit`, `gate`: supersteps.
 //! - `told`: the same in the words of the segments. `refused`: want of memory.
 //!
@@ -34,6 +36,7 @@
 mod alone;
 mod begin;
 mod end;
+mod flight;
 mod gate;
 mod home;
 mod kit;
@@ -49,14 +52,18 @@ mod tests;
 mod told;
 mod turn;
 mod view;
+mod wraps;
 
+pub use flight::Flight;
 pub use gate::{Always, Gate};
 pub use home::Home;
 pub use kit::{Kit, superstep};
 pub use lead::Lead;
 pub use learns::Learns;
 pub use pass::Pass;
+
 pub use phased::{Grants, Phased};
 pub use promise::{Add, Any, Find, FindInsert, Own, Pop, Promise, Push, PushPop, Read};
 pub use refused::Refused;
 pub use view::{Role, View};
+pub use wraps::Wraps;

@@ -5,11 +5,13 @@ use Rattle.bcl_event.specs.declared.event.Event.{Event}
 use Rattle.bcl_event.specs.History.{state_after}
 use Rattle.bcl_segment.specs.declared.layout.Layout.{Layout}
 use Rattle.bcl_phase.specs.declared.view.View.{View}
+use Rattle.bcl_phase.specs.declared.pass.Pass.{Pass}
+use Rattle.bcl_phase.specs.Parts.{pass_view}
 use Rattle.bcl_phase.specs.Stands as phase
 use Rattle.bcl_tally.specs.declared.tally.Call.{Call}
 use Rattle.bcl_tally.specs.declared.tally.Reply.{Reply}
 use Rattle.bcl_tally.specs.declared.tally.Note.{Note}
-use Rattle.bcl_tally.specs.declared.tally.Note.TheVariants.{Got}
+use Rattle.bcl_tally.specs.declared.tally.Note.TheVariants.{Rest, Got}
 use Rattle.bcl_tally.specs.Tally.{ranks, start, next, permits}
 
 -- one word a rank, for so many ranks
@@ -36,3 +38,7 @@ Makes c a note t did y = (did ≡ c ∷ []) × ((next 0 t c).0 ≡ a) × (y ≡ 
 -- a step that makes no call, and leaves the number found in flight
 abbrev pub Gets : ℕ → List ℕ → List Call → Note → Type 0
 Gets n t did y = (did ≡ []) × (y ≡ Got n)
+
+-- no call is in flight
+abbrev pub IsAtRest : {R P C A T K : Type 0} {g t p : _} → Pass R P C A T Note K g t p → Type 0
+IsAtRest pass = (pass_view pass).note ≡ Rest

@@ -1,3 +1,4 @@
 pub mod Tally
 pub mod Ranks
 pub mod Calls
+pub mod Parts

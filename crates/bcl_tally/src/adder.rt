@@ -2,28 +2,28 @@
 
 ghost use Rattle.std.specs.Prelude.{◌≡◌, ℕ, ◌<◌, [], ◌∷◌};
 ghost use Rattle.bcl_event.specs.History.{event};
-ghost use Rattle.bcl_phase.specs.Parts.{lead_key, lead_layout, lead_heads, pass_view, IsOf};
+ghost use Rattle.bcl_phase.specs.Parts.{lead_key, lead_layout, lead_heads};
 ghost use Rattle.bcl_tally.specs.declared.tally.Call.TheVariants.{Add};
 ghost use Rattle.bcl_tally.specs.declared.tally.Reply.TheVariants.{Was};
-ghost use Rattle.bcl_tally.specs.declared.tally.Note.TheVariants.{Rest};
 ghost use Rattle.bcl_tally.specs.Calls.{IsShaped, Ran};
+ghost use Rattle.bcl_tally.specs.Parts.{pass_view, IsOf};
 
-use crate::calls::add;
+use crate::pass::TallyPass;
 use crate::tally::Tally;
-use bcl_phase::{Any, Kit, Lead, Pass};
+use bcl_phase::{Any, Kit, Lead};
 
 /// Adds to the number of rank 0 and then to its own.
 #[derive(Drop)]
 pub struct Adder<'a> {
     pub lead: &'a Lead<Tally>,
-    pub pass: Pass<Tally, Any>,
+    pub pass: TallyPass<Any>,
     pub n: u64,
 }
 
 impl<'a> Kit for Adder<'a> {
-    ghost ready = { λ k. (0 < lead_key k.lead.now) × IsOf k.pass k.lead.now × IsShaped (lead_key k.lead.now) (lead_heads k.lead.now) (lead_layout k.lead.now) × ((pass_view k.pass).note ≡ Rest) };
+    ghost ready = { λ k. (0 < lead_key k.lead.now) × IsOf k.pass k.lead.now × IsShaped (lead_key k.lead.now) (lead_heads k.lead.now) (lead_layout k.lead.now) };
 
-    ghost step = { λ k l. (l.lead ≡ k.lead) × IsOf l.pass l.lead.now × ((pass_view l.pass).note ≡ Rest)
+    ghost step = { λ k l. (l.lead ≡ k.lead) × IsOf l.pass l.lead.now
         × ((a b : ℕ) × Ran (lead_key k.lead.now) (pass_view k.pass) (pass_view l.pass) (event (pass_view k.pass).rank (Add 0 k.n) (Was a) ∷ event (pass_view k.pass).rank (Add (pass_view k.pass).rank k.n) (Was b) ∷ [])) };
 
     fn rank(&self) -> u32 {
@@ -32,7 +32,7 @@ impl<'a> Kit for Adder<'a> {
 
     fn part(&mut self) {
         let own = self.pass.rank();
-        add(&mut self.pass, self.lead, 0, self.n);
-        add(&mut self.pass, self.lead, own, self.n);
+        self.pass.add(self.lead, 0, self.n);
+        self.pass.add(self.lead, own, self.n);
     }
 }

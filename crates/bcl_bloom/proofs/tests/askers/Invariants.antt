@@ -2,8 +2,7 @@ use Rattle.std.proofs.Common.{◌≡◌, ℕ, length}
 use Rattle.std.specs.List.{All}
 use mathlib.Core.Option.{some}
 use lib.ListN.{get_elem?}
-use Rattle.bcl_phase.specs.Parts.{pass_view}
-use Rattle.bcl_bloom.specs.Parts.{IsOf}
+use Rattle.bcl_bloom.specs.Parts.{pass_view, IsOf}
 use Rattle.bcl_bloom.proofs.tests.askers.Given as goal
 
 abbrev pub invariant-loop-pass : goal.invariant-loop-pass

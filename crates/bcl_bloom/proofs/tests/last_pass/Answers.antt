@@ -1,7 +1,6 @@
 use Rattle.std.proofs.Common.{◌≡◌}
-use Rattle.bcl_phase.specs.Parts.{pass_view}
 use Rattle.bcl_phase.proofs.Returns.{last_placed, rest_placed}
-use Rattle.bcl_bloom.specs.Parts.{IsOf}
+use Rattle.bcl_bloom.specs.Parts.{pass_view, IsOf}
 use Rattle.bcl_bloom.proofs.tests.last_pass.Goals as goal
 
 pub returns-clause-of : goal.returns-clause-of

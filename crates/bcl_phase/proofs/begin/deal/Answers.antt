@@ -2,6 +2,7 @@ use Rattle.std.proofs.Common.{◌≡◌, ℕ, ◌+◌, length, [], ◌∷◌, re
 use Rattle.bcl_segment.specs.declared.layout.Layout.{Layout}
 use Rattle.bcl_segment.specs.Parts.{table_of, key_of, view_of, number_of}
 use Rattle.bcl_phase.specs.Phases.{begun}
+use Rattle.bcl_phase.specs.Parts.{pass_view, pass_table, pass_layout}
 use Rattle.bcl_phase.proofs.Homes.{splits}
 use Rattle.bcl_phase.proofs.Returns.{placed, cut_is, recounted}
 use Rattle.bcl_phase.proofs.begin.deal.Goals as goal
@@ -17,7 +18,8 @@ pub loop-rank-preserved : goal.loop-rank-preserved
 loop-rank-preserved g c = let h = c.requires.home in let I = c.loop-rank.invariant in let split = c.split-pass.ensures in
     let n : ℕ = length c.loop-rank.passes.items in
     let count : n ≡ c.loop-rank.rank = I.count in
-    let more : length c.push.new.self.items ≡ n + 1 = ap length c.in-Ok.ensures.items ∙ length-append c.loop-rank.passes.items (c.seated.result ∷ []) in
+    let more : length c.push.new.self.items ≡ n + 1 = ap length c.in-Ok.ensures.items ∙ length-append c.loop-rank.passes.items (c.wrap.result ∷ []) in
+    let held = c.wrap.ensures.inner in
     let room = I.room in
     let at : view_of c.split-pass.result ≡ begun g.R.Phased.rest g.P.Promise.CODE (key_of c.args.segments.now) (view_of c.args.seat.now).seen n =
     split.right ∙ cut_is (view_of c.args.seat.now) (view_of c.loop-rank.seat) _ _ _ n c.requires.begins.0 h.0.2 (I.view ∙ (λ i. record (view_of c.args.seat.now) { passes = sym count i })) in record {
@@ -25,5 +27,6 @@ loop-rank-preserved g c = let h = c.requires.home in let I = c.loop-rank.invaria
       view = split.left ∙ recounted (view_of c.args.seat.now) (view_of c.loop-rank.seat) c.loop-rank.rank (c.loop-rank.rank + 1) I.view refl;
       count = more ∙ ap (λ (z : ℕ). z + 1) count;
       room = le_trans room c.in-Ok.ensures.capacity;
-      dealt = placed _ c.loop-rank.passes.items _ c.seated.result c.in-Ok.ensures.items I.dealt (ap table_of c.seated.ensures.seat ∙ split.new, c.seated.ensures.layout, ap view_of c.seated.ensures.seat ∙ at);
+      dealt = placed _ c.loop-rank.passes.items _ c.wrap.result c.in-Ok.ensures.items I.dealt
+          ((λ i. pass_table (held i)) ∙ (ap table_of c.seated.ensures.seat ∙ split.new), (λ i. pass_layout (held i)) ∙ c.seated.ensures.layout, (λ i. pass_view (held i)) ∙ (ap view_of c.seated.ensures.seat ∙ at));
     }

@@ -1,9 +1,9 @@
 use Rattle.std.proofs.Common.{◌≡◌, ℕ, ◌≤◌, length, vec_capacity}
 use mathlib.Core.Option.{some}
 use lib.ListN.{get_elem?}
-use Rattle.bcl_segment.specs.Parts.{key_of, table_of, id_of, view_of, IsSameSeat}
+use Rattle.bcl_segment.specs.Parts.{key_of, id_of, view_of, IsSameSeat}
 use Rattle.bcl_phase.specs.Phases.{begun}
-use Rattle.bcl_phase.specs.Parts.{pass_view}
+use Rattle.bcl_phase.specs.Parts.{pass_view, pass_table, pass_layout}
 use Rattle.bcl_phase.proofs.begin.deal.Given as goal
 
 abbrev pub invariant-loop-rank : goal.invariant-loop-rank
@@ -12,5 +12,5 @@ invariant-loop-rank g l = record {
   view : view_of l.seat ≡ record (view_of l.initial.seat) { passes = l.rank };
   count : length l.passes.items ≡ l.rank;
   room : l.initial.layout.ranks ≤ vec_capacity l.passes;
-  dealt : (i : ℕ) (p : _) → get_elem? l.passes.items i ≡ some p → (table_of p.seat ≡ id_of l.segments) × (p.layout ≡ l.initial.layout) × (pass_view p ≡ begun g.R.Phased.rest g.P.Promise.CODE (key_of l.segments) (view_of l.initial.seat).seen i);
+  dealt : (i : ℕ) (p : _) → get_elem? l.passes.items i ≡ some p → (pass_table (g.W.Wraps.inner p) ≡ id_of l.segments) × (pass_layout (g.W.Wraps.inner p) ≡ l.initial.layout) × (pass_view (g.W.Wraps.inner p) ≡ begun g.R.Phased.rest g.P.Promise.CODE (key_of l.segments) (view_of l.initial.seat).seen i);
 }

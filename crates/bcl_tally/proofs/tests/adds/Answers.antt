@@ -5,9 +5,6 @@ use Rattle.bcl_tally.proofs.tests.adds.Goals as goal
 pub add-requires-clause-of : goal.add-requires-clause-of
 add-requires-clause-of c = (c.requires.dealt 0 c.in-Some.pass (one_left _ _ _ c.in-Some.ensures.items c.requires.one).1).0
 
-pub add-requires-clause-rest : goal.add-requires-clause-rest
-add-requires-clause-rest c = (c.requires.dealt 0 c.in-Some.pass (one_left _ _ _ c.in-Some.ensures.items c.requires.one).1).2
-
 pub returns-clause-one : goal.returns-clause-one
 returns-clause-one c = ap length (one_again _ _ _ c.in_ok-push.ensures.items (one_left _ _ _ c.in-Some.ensures.items c.requires.one).0)
 
@@ -15,5 +12,4 @@ pub returns-clause-dealt : goal.returns-clause-dealt
 returns-clause-dealt c = each_of_one _ _ _ (one_again _ _ _ c.in_ok-push.ensures.items (one_left _ _ _ c.in-Some.ensures.items c.requires.one).0) (
   c.add_often.ensures.of,
   c.add_often.ensures.goes.same.same_rank ∙ (c.touch-found.ensures.rank ∙ (c.add.ensures.stands.same.same_rank ∙ (c.requires.dealt 0 c.in-Some.pass (one_left _ _ _ c.in-Some.ensures.items c.requires.one).1).1)),
-  c.add_often.ensures.rest,
 )

@@ -5,12 +5,9 @@ use Rattle.bcl_tally.proofs.tests.swaps.Goals as goal
 pub swap-was-requires-clause-of : goal.swap-was-requires-clause-of
 swap-was-requires-clause-of c = (c.requires.dealt 0 c.in-Some.pass (one_left _ _ _ c.in-Some.ensures.items c.requires.one).1).0
 
-pub swap-was-requires-clause-rest : goal.swap-was-requires-clause-rest
-swap-was-requires-clause-rest c = (c.requires.dealt 0 c.in-Some.pass (one_left _ _ _ c.in-Some.ensures.items c.requires.one).1).2
-
 pub returns-clause-one : goal.returns-clause-one
 returns-clause-one c = ap length (one_again _ _ _ c.in_ok-push.ensures.items (one_left _ _ _ c.in-Some.ensures.items c.requires.one).0)
 
 pub returns-clause-dealt : goal.returns-clause-dealt
 returns-clause-dealt c = each_of_one _ _ _ (one_again _ _ _ c.in_ok-push.ensures.items (one_left _ _ _ c.in-Some.ensures.items c.requires.one).0)
-    (c.swap-was.ensures.of, c.swap-was.ensures.stands.same.same_rank ∙ (c.requires.dealt 0 c.in-Some.pass (one_left _ _ _ c.in-Some.ensures.items c.requires.one).1).1, c.swap-was.ensures.rest)
+    (c.swap-was.ensures.of, c.swap-was.ensures.stands.same.same_rank ∙ (c.requires.dealt 0 c.in-Some.pass (one_left _ _ _ c.in-Some.ensures.items c.requires.one).1).1)

@@ -1,9 +1,9 @@
 use Rattle.std.proofs.Common.{◌≡◌, ℕ, ◌++◌, length}
 use mathlib.Core.Option.{some}
 use lib.ListN.{get_elem?}
-use Rattle.bcl_segment.specs.Parts.{table_of, id_of, view_of}
+use Rattle.bcl_segment.specs.Parts.{id_of, view_of}
 use Rattle.bcl_phase.specs.Seats.{IsHomeSeat}
-use Rattle.bcl_phase.specs.Parts.{pass_view}
+use Rattle.bcl_phase.specs.Parts.{pass_view, pass_table}
 use Rattle.bcl_phase.proofs.Returns.{over, told}
 use Rattle.bcl_phase.proofs.lead.Lead.end.Given as goal
 
@@ -12,8 +12,8 @@ invariant-loop-pass g l = record {
   seat : IsHomeSeat l.segments l.seat;
   out : (view_of l.seat).passes ≡ length l.passes.items;
   phase : ((view_of l.seat).start ≡ (view_of l.initial.seat).start) × ((view_of l.seat).promise ≡ (view_of l.initial.seat).promise);
-  taken : over l.initial.passes.items (λ p. told (pass_view p)) ≡ over l.passes.items (λ p. told (pass_view p)) ++ (view_of l.seat).back;
-  left : (i : ℕ) (p : _) → get_elem? l.passes.items i ≡ some p → (table_of p.seat ≡ id_of l.segments) × ((pass_view p).rank ≡ i) × ((pass_view p).note ≡ g.R.Phased.rest);
+  taken : over l.initial.passes.items (λ p. told (pass_view (g.W.Wraps.inner p))) ≡ over l.passes.items (λ p. told (pass_view (g.W.Wraps.inner p))) ++ (view_of l.seat).back;
+  left : (i : ℕ) (p : _) → get_elem? l.passes.items i ≡ some p → (pass_table (g.W.Wraps.inner p) ≡ id_of l.segments) × ((pass_view (g.W.Wraps.inner p)).rank ≡ i) × ((pass_view (g.W.Wraps.inner p)).note ≡ g.R.Phased.rest);
 }
 
 abbrev pub decreases-loop-pass : goal.decreases-loop-pass

@@ -1,6 +1,6 @@
 use Rattle.std.proofs.Common.{◌≡◌, []}
 use Rattle.bcl_tally.specs.declared.tally.Note.TheVariants.{Rest}
-use Rattle.bcl_tally.proofs.calls.touch.Given as goal
+use Rattle.bcl_tally.proofs.pass.TallyPass+Any.touch.Given as goal
 
 abbrev pub ghosts-cas : goal.ghosts-cas
 ghosts-cas a = record { then = λ _ _ did y. (did ≡ []) × (y ≡ Rest) }

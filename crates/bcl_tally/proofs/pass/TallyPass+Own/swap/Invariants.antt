@@ -1,7 +1,7 @@
 use Rattle.bcl_tally.specs.declared.tally.Reply.TheVariants.{Was}
 use Rattle.bcl_tally.specs.declared.tally.Note.TheVariants.{Rest}
 use Rattle.bcl_tally.specs.Calls.{Makes, Gets}
-use Rattle.bcl_tally.proofs.calls.swap.Given as goal
+use Rattle.bcl_tally.proofs.pass.TallyPass+Own.swap.Given as goal
 
 abbrev pub ghosts-get : goal.ghosts-get
 ghosts-get a = record { then = Gets }

@@ -1,7 +1,0 @@
-use Rattle.bcl_event.specs.declared.filter.FilterCall.TheVariants.{Find}
-use Rattle.bcl_phase.specs.Parts.{lead_key}
-use Rattle.bcl_bloom.specs.Calls.{bits_of, Answers}
-use Rattle.bcl_bloom.proofs.pass.FilterPassAnyFilterCalls.find.Given as goal
-
-abbrev pub ghosts-get : goal.ghosts-get
-ghosts-get g a = record { then = λ n t did _. Answers g.K.Hashed.width g.K.Hashed.words (lead_key a.lead.now) (Find a.about.now) (bits_of g.K.Hashed.width g.K.Hashed.words a.about.now) n t did }
