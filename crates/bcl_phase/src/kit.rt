@@ -37,6 +37,14 @@ pub fn superstep<T: Kit, G: Gate, H: Threads + Sync>(rt: &H, kits: &mut [T], gat
     halves(rt, gate, kits);
 }
 
+/// One superstep, as [`superstep`], of kits in a list.
+pub fn superstep_all<T: Kit, G: Gate, H: Threads + Sync>(rt: &H, kits: &mut Vec<T>, gate: &G)
+    requires ready { All T.ready kits.old.items }
+    ensures steps { AllZip T.step kits.old.items kits.new.items }
+{
+    superstep(rt, kits.as_mut_slice(), gate);
+}
+
 // The two halves run side by side.
 #[tactic(auto, using(crate::proofs::Zips::halves_steps))]
 fn halves<T: Kit, G: Gate, H: Threads + Sync>(rt: &H, gate: &G, kits: &mut [T])

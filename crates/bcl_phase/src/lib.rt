@@ -7,7 +7,7 @@
 //! the end of one is a barrier.
 //!
 //!     let (lead, passes) = home.begin::<Any, _>(alloc)?;        // a pass for each rank
-//!     superstep(&rt, &mut kits, &Always);                       // each rank's part, side by side
+//!     superstep_all(&rt, &mut kits, &Always);                   // each rank's part, side by side
 //!     let (lead, passes) = lead.turn::<Any, Own, _, _>(alloc, passes)?;
 //!     let home = lead.end::<Own, _>(passes);                       // the home has seen the whole history
 //!
@@ -48,6 +48,8 @@ mod promise;
 mod refused;
 mod steps;
 #[cfg(test)]
+mod sums;
+#[cfg(test)]
 mod tests;
 mod told;
 mod turn;
@@ -57,7 +59,7 @@ mod wraps;
 pub use flight::Flight;
 pub use gate::{Always, Gate};
 pub use home::Home;
-pub use kit::{Kit, superstep};
+pub use kit::{Kit, superstep, superstep_all};
 pub use lead::Lead;
 pub use learns::Learns;
 pub use pass::Pass;

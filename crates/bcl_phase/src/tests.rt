@@ -1,8 +1,9 @@
 use crate::{
     Add, Always, Any, Find, FindInsert, Gate, Home, Kit, Lead, Own, Pass, Phased, Pop, Promise,
-    Push, PushPop, Read, superstep,
+    Push, PushPop, Read, superstep, superstep_all,
 };
 use std::sync::atomic::{AtomicU64, Ordering};
+use std::test::Fail;
 
 // Holds each of the ranks 0 and 1 until the other has entered, and counts how many of the two saw the other.
 #[derive(Drop)]
@@ -84,6 +85,20 @@ fn each_kit_does_its_part(rt: HostRuntime) {
     superstep(&rt, &mut kits, &Always);
     prove_eq!(kits[2].count, 21);
     assert_eq!(rt; kits[0].count, 1);
+}
+
+#[test]
+fn kits_in_a_list_do_their_parts(rt: HostRuntime) -> Result<(), Fail> {
+    let mut kits = Vec::new(rt.alloc());
+    kits.push(Count { rank: 0, count: 0 })?;
+    kits.push(Count { rank: 1, count: 10 })?;
+    superstep_all(&rt, &mut kits, &Always);
+    let counts = [
+        kits.pop().map(|kit| kit.count),
+        kits.pop().map(|kit| kit.count),
+    ];
+    assert!(rt; counts == [Some(11), Some(1)]);
+    Ok(())
 }
 
 fn code<P: Promise>() -> u64 {
