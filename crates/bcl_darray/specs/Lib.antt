@@ -1,0 +1,5 @@
+pub mod Array
+pub mod Fits
+pub mod Ranks
+pub mod Calls
+pub mod Parts
