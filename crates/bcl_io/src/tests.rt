@@ -4,6 +4,7 @@ use crate::{
     Failed, MemSink, MemSource, ReadFault, Sink, Source, StdSink, StdSource, read_all, write_all,
 };
 use bcl_words::NoMemory;
+use std::alloc::Global;
 use std::io;
 use std::test::Fail;
 
@@ -21,11 +22,24 @@ fn display_texts(rt: HostRuntime) -> Result<(), Fail> {
     Ok(())
 }
 
+/// How many bytes a source of at most `limit` has. Want of memory ends the test.
+fn length_read<S: Source>(
+    alloc: Global,
+    src: &mut S,
+    limit: usize,
+) -> Result<Result<usize, ReadFault>, Fail> {
+    match read_all(alloc, src, limit) {
+        Ok(bytes) => Ok(Ok(bytes.len())),
+        Err(ReadFault::NoMemory) => Err(NoMemory.into()),
+        Err(fault) => Ok(Err(fault)),
+    }
+}
+
 /// Reads 4,097 bytes from a source whose call with this number fails.
 fn read_with_fault(rt: &impl AllocGlobal, call: u64) -> Result<Result<usize, ReadFault>, Fail> {
     let alloc = rt.alloc();
     let mut src = MemSource::new(vec![in alloc; 7; 4097]?, 1 << 20, vec![in alloc; call]?);
-    Ok(read_all(alloc, &mut src, 1 << 20).map(|bytes| bytes.len()))
+    length_read(alloc, &mut src, 1 << 20)
 }
 
 #[test]
@@ -46,8 +60,7 @@ fn the_limit_is_the_last_length_read(rt: HostRuntime) -> Result<(), Fail> {
     let alloc = rt.alloc();
     for (limit, outcome) in [(9, Err(ReadFault::TooLarge)), (10, Ok(10)), (11, Ok(10))] {
         let mut src = MemSource::new(vec![in alloc; 1; 10]?, 3, Vec::new(alloc));
-        let read = read_all(alloc, &mut src, limit).map(|bytes| bytes.len());
-        assert_eq!(rt; read, outcome, "limit {limit}");
+        assert_eq!(rt; length_read(alloc, &mut src, limit)?, outcome, "limit {limit}");
     }
     Ok(())
 }
@@ -134,7 +147,7 @@ fn devices_of_std_move_bytes(rt: HostRuntime) -> Result<(), Fail> {
     let mut src = StdSource::new(b"twelve bytes".as_slice());
     let bytes = read_all(alloc, &mut src, 100)?;
     assert_eq!(rt; bytes.as_slice(), b"twelve bytes".as_slice());
-    let mut written = Vec::new(alloc);
+    let mut written = Vec::with_capacity(alloc, 12)?;
     write_all(&mut StdSink::new(&mut written), &bytes)?;
     assert_eq!(rt; written.as_slice(), b"twelve bytes".as_slice());
     Ok(())

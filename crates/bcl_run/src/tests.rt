@@ -2,6 +2,7 @@
 
 use crate::{Book, Choice, Settings, settings_of, top};
 use bcl_io::{MemSink, MemSource};
+use bcl_words::NoMemory;
 use std::alloc::Global;
 use std::process::Abort;
 use std::test::Fail;
@@ -53,6 +54,9 @@ fn ran<R: Threads + Sync + Abort + AllocGlobal>(
     let mut out = MemSink::new(alloc, 1000, piece, faults.writes.to_vec(alloc)?)?;
     let mut err = MemSink::new(alloc, 1000, piece, faults.says.to_vec(alloc)?)?;
     let ended = top(rt, alloc, &words, &mut src, &mut out, &mut err);
+    if ended.status == 5 {
+        return Err(NoMemory.into());
+    }
     assert_eq!(rt; ended.book, Book::None);
     Ok(Outcome {
         status: ended.status,

@@ -3,6 +3,7 @@
 ghost use Rattle.kmer_text.specs.Kmers.{IsKmerLength};
 
 use crate::{WalkFault, firsts_of, plain_contigs, text_of};
+use bcl_words::NoMemory;
 use kmer_text::{Kmer, Lines, check_nodes};
 use std::alloc::Global;
 use std::test::Fail;
@@ -13,6 +14,7 @@ fn first_of(alloc: Global, text: &[u8]) -> Result<Result<Option<u32>, WalkFault>
     check_nodes(&lines, 3)?;
     match firsts_of(alloc, &lines, 3) {
         Ok(firsts) => Ok(Ok(firsts.get(&Kmer { bits: 6 }).copied())),
+        Err(WalkFault::NoMemory) => Err(NoMemory.into()),
         Err(fault) => Ok(Err(fault)),
     }
 }
