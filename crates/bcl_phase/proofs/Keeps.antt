@@ -2,6 +2,7 @@
 use Rattle.std.proofs.Common.{◌≡◌, ◌≢◌, ℕ, zero, suc, ◌+◌, ◌≤◌, List, [], ◌∷◌, ◌++◌, slice_index, slice_set, set, refl, sym, ap, ◌∙◌, subst, ⊎_elim, arith, length-set, Some}
 use Rattle.std.specs.List.{All}
 use Rattle.std.proofs.lemmas.List.Elements.{All-nil, All-append}
+use Rattle.std.proofs.lemmas.Option.{none-some}
 use mathlib.Core.Option as plain
 use mathlib.Core.Option.{some-injective, some-ne-none}
 use mathlib.Core.List.{IsPrefix, append-nil, append_assoc, append_cancel_left}
@@ -76,6 +77,7 @@ module _ {C A X K T : Type 0} (ranks : K → ℕ) (start : K → T) (next : K �
     live = λ j v e _. absurd (some-ne-none v (sym e));
     apart = λ i j v w e _ _ _ _. absurd (some-ne-none v (sym e));
     few = omega arith;
+    known = λ ws e. absurd (none-some ws e);
     counted = refl;
     container = h;
   }
@@ -161,6 +163,7 @@ module _ {C A X K T : Type 0} (ranks : K → ℕ) (start : K → T) (next : K �
                   (λ (y' : (q ≢ j) × (get_elem? r.others q ≡ plain.some u')). r.apart p q u u' y.1 y'.1 is is' same) (at_set r.others j q w u' e'))
                   (at_set r.others j p w u e);
               few = r.few;
+              known = λ ws e. let none = (r.known ws e).1 in let l = live.1 in absurd (omega arith);
               counted = length-set r.notes v.rank x ∙ r.counted;
               container = subst (λ (z : ℕ × T). fits k z.0 (slice_set s.words i (f (slice_index s.words i))) z.1 notes')
                   (λ z. (live.2 z, sym (after-append (next k) (start k) h es ∙ after_events (next k) v.rank t did) z)) m.3;

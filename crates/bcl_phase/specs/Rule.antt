@@ -48,6 +48,7 @@ module _ {C A X K T : Type 0} (ranks : K → ℕ) (start : K → T) (next : K �
     pub live : (j : ℕ) (v : View C A X K) → get_elem? others j ≡ plain.some v → v.role ≡ Pass → IsLive key home history v × (get_elem? notes v.rank ≡ plain.some v.note)
     pub apart : (i j : ℕ) (v w : View C A X K) → get_elem? others i ≡ plain.some v → get_elem? others j ≡ plain.some w → v.role ≡ Pass → w.role ≡ Pass → v.rank ≡ w.rank → i ≡ j
     pub few : home.passes ≤ ranks key
+    pub known : (ws : List ℕ) → home.words ≡ Some ws → (s.words ≡ ws) × (home.passes ≡ 0)
     pub counted : length notes ≡ home.passes
     pub container : fits key home.promise s.words (state_after (next key) (start key) history) notes
 

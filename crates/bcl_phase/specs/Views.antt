@@ -41,15 +41,15 @@ seen_by seen history (e ∷ es) = history ++ e ∷ es
 module _ {C A X K : Type 0} where
   -- the first view: of the container's key, the number of its ranks, and the note of no call in flight
   abbrev pub opened : K → ℕ → X → View C A X K
-  opened key ranks rest = record { role = Home; key = Some key; rank = ranks; promise = 0; seen = []; mine = []; gets = 0; puts = 0; atomics = 0; note = rest; passes = 0; start = []; back = [] }
+  opened key ranks rest = record { role = Home; key = Some key; rank = ranks; promise = 0; seen = []; mine = []; gets = 0; puts = 0; atomics = 0; note = rest; passes = 0; start = []; back = []; words = None }
 
   -- what is left of a pass that came back
   abbrev pub spent : X → View C A X K
-  spent rest = record { role = Spent; key = None; rank = 0; promise = 0; seen = []; mine = []; gets = 0; puts = 0; atomics = 0; note = rest; passes = 0; start = []; back = [] }
+  spent rest = record { role = Spent; key = None; rank = 0; promise = 0; seen = []; mine = []; gets = 0; puts = 0; atomics = 0; note = rest; passes = 0; start = []; back = []; words = None }
 
-  -- a home as it begins a phase
+  -- a home as it begins a phase: it knows its words no longer, as others may change them
   abbrev pub begins : ℕ → View C A X K → View C A X K
-  begins promise v = record v { promise = promise; start = v.seen; back = [] }
+  begins promise v = record v { promise = promise; start = v.seen; back = []; words = None }
 
   -- a home that cuts a pass for the next rank
   abbrev pub cuts : View C A X K → View C A X K
@@ -57,7 +57,7 @@ module _ {C A X K : Type 0} where
 
   -- that pass
   abbrev pub cut : X → View C A X K → View C A X K
-  cut rest v = record { role = Pass; key = v.key; rank = v.passes; promise = v.promise; seen = v.seen; mine = of v.passes v.seen; gets = 0; puts = 0; atomics = 0; note = rest; passes = 0; start = []; back = [] }
+  cut rest v = record { role = Pass; key = v.key; rank = v.passes; promise = v.promise; seen = v.seen; mine = of v.passes v.seen; gets = 0; puts = 0; atomics = 0; note = rest; passes = 0; start = []; back = []; words = None }
 
   -- a home that takes back the pass of its last rank
   abbrev pub takes : View C A X K → View C A X K → View C A X K
@@ -67,6 +67,6 @@ module _ {C A X K : Type 0} where
   abbrev pub moved : Tick → View C A X K → List (Event C A) → List (Event C A) → X → View C A X K
   moved tick v history es note = record v { seen = seen_by v.seen history es; mine = v.mine ++ es; note = note; gets = gets_after tick v.gets; puts = puts_after tick v.puts; atomics = atomics_after tick v.atomics }
 
-  -- a home that no pass is out of, after a step that adds these events
-  abbrev pub gone_on : Tick → View C A X K → List (Event C A) → View C A X K
-  gone_on tick v es = record v { seen = v.seen ++ es; mine = v.mine ++ es; start = v.seen ++ es; back = []; gets = gets_after tick v.gets; puts = puts_after tick v.puts; atomics = atomics_after tick v.atomics }
+  -- a home that no pass is out of, after a step that adds these events and leaves these words
+  abbrev pub gone_on : Tick → View C A X K → List (Event C A) → List ℕ → View C A X K
+  gone_on tick v es words = record v { words = Some words; seen = v.seen ++ es; mine = v.mine ++ es; start = v.seen ++ es; back = []; gets = gets_after tick v.gets; puts = puts_after tick v.puts; atomics = atomics_after tick v.atomics }

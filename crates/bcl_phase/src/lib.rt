@@ -61,7 +61,6 @@ pub use kit::{Kit, superstep};
 pub use lead::Lead;
 pub use learns::Learns;
 pub use pass::Pass;
-
 pub use phased::{Grants, Phased};
 pub use promise::{Add, Any, Find, FindInsert, Own, Pop, Promise, Push, PushPop, Read};
 pub use refused::Refused;

@@ -42,7 +42,7 @@ pub(crate) struct HomeGets<R, M> {
 }
 
 impl<R: Phased, M: Learns<R::State, R::Call, R::Note>> Tells<R::View> for HomeGets<R, M> {
-    ghost then = { λ _ _ _ v n w. (k : R.Key) → v.key ≡ Some k → HomeTold R.start R.next k a_get v (λ m t did. M.then m t did R.rest) n w };
+    ghost then = { λ i _ _ v n w. (k : R.Key) → v.key ≡ Some k → HomeTold R.start R.next R.fits k a_get v i (λ m. m) (λ m t did. M.then m t did R.rest) n w };
 }
 
 /// A put of a home.
@@ -51,7 +51,7 @@ pub(crate) struct HomePuts<R, M> {
 }
 
 impl<R: Phased, M: Learns<R::State, R::Call, R::Note>> Tells<R::View> for HomePuts<R, M> {
-    ghost then = { λ _ _ _ v n w. (k : R.Key) → v.key ≡ Some k → HomeTold R.start R.next k a_put v (λ m t did. M.then m t did R.rest) n w };
+    ghost then = { λ i word _ v n w. (k : R.Key) → v.key ≡ Some k → HomeTold R.start R.next R.fits k a_put v i (λ _. word) (λ m t did. M.then m t did R.rest) n w };
 }
 
 /// A home begins a phase under the promise P, and is told of the one before.

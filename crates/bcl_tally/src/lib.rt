@@ -15,6 +15,6 @@ mod tally;
 mod tests;
 
 pub use adder::Adder;
-pub use calls::{clear, open, read};
+pub use calls::{clear, open, read, read_both};
 pub use pass::TallyPass;
 pub use tally::{Call, Note, Reply, Tally};

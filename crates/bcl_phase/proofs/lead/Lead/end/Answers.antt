@@ -1,4 +1,4 @@
-use Rattle.std.proofs.Common.{rules, ◌≡◌, ◌+◌, length, [], ◌∷◌, refl, sym, ap, ◌∙◌, arith, length-append}
+use Rattle.std.proofs.Common.{rules, ◌≡◌, ◌+◌, length, [], ◌∷◌, refl, sym, ap, ◌∙◌, arith, length-append, subst}
 use Rattle.bcl_segment.specs.declared.layout.Layout.{Layout}
 use Rattle.bcl_segment.specs.Parts.{table_of, number_of, key_of, view_of}
 use Rattle.bcl_phase.specs.Parts.{pass_view, pass_table}
@@ -26,8 +26,8 @@ join-requires-clause-rule g c = let I = c.loop-pass.invariant in let e = c.into_
     let count : length c.loop-pass.passes.items ≡ length c.pop.new.self.items + 1 = ap length c.in-Some.ensures.items ∙ length-append c.pop.new.self.items (c.in-Some.pass ∷ []) in
     let out : (view_of c.loop-pass.seat).passes ≡ length c.loop-pass.passes.items = I.out in
     let rank : (view_of c.into_seat.result).rank ≡ length c.pop.new.self.items = (λ i. (view_of (e i)).rank) ∙ ((λ i. (pass_view (held i)).rank) ∙ last.1) in
-    joins _ _ _ _ _ g.R.Phased.rest (key_of c.args.self.segments) g.R.TableRule.holds g.met.R.Phased.from g.met.R.Phased.back (number_of c.loop-pass.seat) (view_of c.loop-pass.seat) (number_of c.into_seat.result) (view_of c.into_seat.result)
-    I.seat.1 ((λ i. (view_of (e i)).role) ∙ it.0) (omega arith) ((λ i. (view_of (e i)).note) ∙ ((λ i. (pass_view (held i)).note) ∙ last.2)) (g.R.Phased.releases (key_of c.args.self.segments))
+    joins _ _ _ _ _ g.R.Phased.rest (key_of c.args.self.segments) g.R.TableRule.holds g.met.R.Phased.from g.met.R.Phased.back g.R.Phased.idle (number_of c.loop-pass.seat) (view_of c.loop-pass.seat) (number_of c.into_seat.result) (view_of c.into_seat.result)
+    I.seat.1 ((λ i. (view_of (e i)).role) ∙ it.0) (omega arith) (subst g.R.Phased.idle ((λ i. (pass_view (sym held i)).note) ∙ (λ i. (view_of (sym e i)).note)) last.2) (g.R.Phased.releases (key_of c.args.self.segments))
 
 pub loop-pass-preserved : goal.loop-pass-preserved
 loop-pass-preserved g c = let I = c.loop-pass.invariant in let e = c.into_seat.ensures.seat in let held = c.into_inner.ensures.inner in let same = c.join.ensures.same in let w = c.join.ensures.both in

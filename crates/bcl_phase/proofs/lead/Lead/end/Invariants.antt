@@ -13,7 +13,7 @@ invariant-loop-pass g l = record {
   out : (view_of l.seat).passes ≡ length l.passes.items;
   phase : ((view_of l.seat).start ≡ (view_of l.initial.seat).start) × ((view_of l.seat).promise ≡ (view_of l.initial.seat).promise);
   taken : over l.initial.passes.items (λ p. told (pass_view (g.W.Wraps.inner p))) ≡ over l.passes.items (λ p. told (pass_view (g.W.Wraps.inner p))) ++ (view_of l.seat).back;
-  left : (i : ℕ) (p : _) → get_elem? l.passes.items i ≡ some p → (pass_table (g.W.Wraps.inner p) ≡ id_of l.segments) × ((pass_view (g.W.Wraps.inner p)).rank ≡ i) × ((pass_view (g.W.Wraps.inner p)).note ≡ g.R.Phased.rest);
+  left : (i : ℕ) (p : _) → get_elem? l.passes.items i ≡ some p → (pass_table (g.W.Wraps.inner p) ≡ id_of l.segments) × ((pass_view (g.W.Wraps.inner p)).rank ≡ i) × g.R.Phased.idle (pass_view (g.W.Wraps.inner p)).note;
 }
 
 abbrev pub decreases-loop-pass : goal.decreases-loop-pass
