@@ -1,7 +1,8 @@
 -- The home keeps the rule as it cuts passes, takes them back, begins a phase, and steps alone.
-use Rattle.std.proofs.Common.{◌≡◌, ◌≢◌, ℕ, zero, suc, ◌+◌, ◌<◌, ◌≤◌, List, [], ◌∷◌, ◌++◌, length, slice_index, slice_set, set, refl, sym, ap, ◌∙◌, subst, ⊎_elim, arith, le_refl, ◌⊎◌, inl, inr, Some, None}
+use Rattle.std.proofs.Common.{◌≡◌, ◌≢◌, ℕ, zero, suc, ◌+◌, ◌<◌, ◌≤◌, List, [], ◌∷◌, ◌++◌, length, slice_index, slice_set, set, refl, sym, ap, ◌∙◌, subst, ⊎_elim, arith, le_refl, ◌⊎◌, inl, inr, Some, None, false}
 use Rattle.std.specs.List.{All}
 use Rattle.std.proofs.lemmas.Option.{none-some}
+use Rattle.std.proofs.lemmas.Bool.{false≢true}
 use Rattle.std.proofs.lemmas.List.Elements.{All-nil, All-append, All-cons, All-head, All-tail}
 use mathlib.Core.Logic.{dite}
 use native.Mathlib.Decide.{ℕ_discrete}
@@ -90,9 +91,9 @@ module _ {C A X K T : Type 0} (ranks : K → ℕ) (start : K → T) (next : K �
   home_is : (s : S) (r : Rule s) (v : V) → get_elem? s.views 0 ≡ plain.some v → v ≡ r.home
   home_is s r v at = sym (some-injective r.home v (subst (λ (l : List V). get_elem? l 0 ≡ plain.some v) r.views at))
 
-  splits_kept : (s : S) (v : V) → v.passes < v.rank → v.back ≡ [] → v.words ≡ None → Admits → Rule s → get_elem? s.views 0 ≡ plain.some v
+  splits_kept : (s : S) (v : V) → v.passes < v.rank → v.back ≡ [] → v.words ≡ None → v.loose ≡ false → Admits → Rule s → get_elem? s.views 0 ≡ plain.some v
       → Rule (record s { views = set s.views 0 (cuts v) ++ cut rest v ∷ [] })
-  splits_kept s v room none_back no_words admits r at =
+  splits_kept s v room none_back no_words whole admits r at =
       let e : v ≡ r.home = home_is s r v at in
       let h : List E = r.history in
       let home : V = cuts r.home in
@@ -130,7 +131,8 @@ module _ {C A X K T : Type 0} (ranks : K → ℕ) (start : K → T) (next : K �
         few = omega arith;
         known = λ ws is. absurd (none-some ws (sym no_words ∙ (ap (λ (z : V). z.words) e ∙ is)));
         counted = longer_by_one r.notes rest ∙ ap (λ (z : ℕ). z + 1) r.counted;
-        container = admits r.home.promise s.words (state_after (next k) (start k) h) r.notes (let c = r.counted in omega arith) r.container;
+        alone = λ is. absurd (false≢true (sym whole ∙ (ap (λ (z : V). z.loose) e ∙ is)));
+        container = λ is. admits r.home.promise s.words (state_after (next k) (start k) h) r.notes (let c = r.counted in omega arith) (r.container is);
       }
 
   joins_kept : (idle : X → Type 0) (s : S) (v : V) (other : ℕ) (w : V) → w.role ≡ Pass → w.rank + 1 ≡ v.passes → idle w.note → Releases idle → Rule s
@@ -182,7 +184,8 @@ module _ {C A X K T : Type 0} (ranks : K → ℕ) (start : K → T) (next : K �
         few = let f = r.few in omega arith;
         known = λ ws is. let none = (r.known ws is).1 in absurd (omega arith);
         counted = fr.2;
-        container = releases r.home.promise s.words (state_after (next k) (start k) h) fr.0 w.note rests (subst (fits k r.home.promise s.words (state_after (next k) (start k) h)) fr.1 r.container);
+        alone = λ is. let none = r.alone is in absurd (omega arith);
+        container = λ is. releases r.home.promise s.words (state_after (next k) (start k) h) fr.0 w.note rests (subst (fits k r.home.promise s.words (state_after (next k) (start k) h)) fr.1 (r.container is));
       }
     where
       came : (h : List E) (w home : V) → w.rank + 1 ≡ home.passes → IsLive k home h w
@@ -194,16 +197,16 @@ module _ {C A X K T : Type 0} (ranks : K → ℕ) (start : K → T) (next : K �
 
   -- what a home knows that no pass is out of: the whole history, with no call in flight
   module _ (s : S) (v : V) (no_pass : v.passes ≡ 0) (r : Rule s) (at : get_elem? s.views 0 ≡ plain.some v) where
-    alone : v ≡ r.home
+    pub alone : v ≡ r.home
     alone = home_is s r v at
 
-    none_out : r.home.passes ≡ 0
+    pub none_out : r.home.passes ≡ 0
     none_out = ap (λ (z : V). z.passes) (sym alone) ∙ no_pass
 
-    knows_all : r.history ≡ v.seen
+    pub knows_all : r.history ≡ v.seen
     knows_all = whole r.home.seen r.history r.seen (λ q. r.gone q (let none = none_out in omega arith)) ∙ ap (λ (z : V). z.seen) (sym alone)
 
-    no_notes : r.notes ≡ []
+    pub no_notes : r.notes ≡ []
     no_notes = none_left r.notes (r.counted ∙ none_out)
 
     -- since the start the home has made no event
@@ -259,8 +262,9 @@ module _ {C A X K T : Type 0} (ranks : K → ℕ) (start : K → T) (next : K �
       few = r.few;
       known = λ ws is. absurd (none-some ws is);
       counted = sym none;
-      container = subst (λ (z : List ℕ). fits k c z (state_after (next k) (start k) r.history) []) (sym (set-get_or s.words i 0))
-          (begin r.home.promise c s.words (state_after (next k) (start k) r.history) (subst (fits k r.home.promise s.words (state_after (next k) (start k) r.history)) no_notes r.container));
+      alone = r.alone;
+      container = λ is. subst (λ (z : List ℕ). fits k c z (state_after (next k) (start k) r.history) []) (sym (set-get_or s.words i 0))
+          (begin r.home.promise c s.words (state_after (next k) (start k) r.history) (subst (fits k r.home.promise s.words (state_after (next k) (start k) r.history)) no_notes (r.container is)));
     }
 
     went_on : (tick : Tick) (i n : ℕ) (did : List C)
@@ -293,13 +297,14 @@ module _ {C A X K T : Type 0} (ranks : K → ℕ) (start : K → T) (next : K �
           few = omega arith;
           known = λ ws is. (same_some (slice_set s.words i n) ws is, no_pass);
           counted = sym no_pass;
-          container = fit;
+          alone = λ _. no_pass;
+          container = λ _. fit;
         }
 
   module _ (holds : K → S → Type 0) (from : (l : K) (s : S) → holds l s → Kept ranks start next permits fits l s) (back : (l : K) (s : S) → Kept ranks start next permits fits l s → holds l s) where
-    pub splits : (seat : ℕ) (v : V) → seat ≡ 0 → v.passes < v.rank → v.back ≡ [] → v.words ≡ None → Admits → segment.Splits (holds k) seat v (cuts v) (cut rest v)
-    splits seat v zero_is room none_back no_words admits = subst (λ (z : ℕ). segment.Splits (holds k) z v (cuts v) (cut rest v)) (sym zero_is)
-        (λ s kept at. back k (record s { views = set s.views 0 (cuts v) ++ cut rest v ∷ [] }) (splits_kept s v room none_back no_words admits (from k s kept) at))
+    pub splits : (seat : ℕ) (v : V) → seat ≡ 0 → v.passes < v.rank → v.back ≡ [] → v.words ≡ None → v.loose ≡ false → Admits → segment.Splits (holds k) seat v (cuts v) (cut rest v)
+    splits seat v zero_is room none_back no_words whole admits = subst (λ (z : ℕ). segment.Splits (holds k) z v (cuts v) (cut rest v)) (sym zero_is)
+        (λ s kept at. back k (record s { views = set s.views 0 (cuts v) ++ cut rest v ∷ [] }) (splits_kept s v room none_back no_words whole admits (from k s kept) at))
 
     pub joins : (idle : X → Type 0) (seat : ℕ) (v : V) (other : ℕ) (w : V) → seat ≡ 0 → w.role ≡ Pass → w.rank + 1 ≡ v.passes → idle w.note → Releases idle → segment.Joins (holds k) seat v other w (takes v w) (spent rest)
     joins idle seat v other w zero_is pass last rests releases = subst (λ (z : ℕ). segment.Joins (holds k) z v other w (takes v w) (spent rest)) (sym zero_is)
@@ -316,14 +321,14 @@ module _ {C A X K T : Type 0} (ranks : K → ℕ) (start : K → T) (next : K �
         ))
 
     -- a home that no pass is out of makes a step
-    pub home_moves : (seat : ℕ) (tick : Tick) (v : V) (i : ℕ) (f : ℕ → ℕ) (then : ℕ → T → List C → Type 0) → seat ≡ 0 → v.passes ≡ 0 → v.key ≡ Some k → Rests next permits fits k v.promise i f then
+    pub home_moves : (seat : ℕ) (tick : Tick) (v : V) (i : ℕ) (f : ℕ → ℕ) (then : ℕ → T → List C → Type 0) → seat ≡ 0 → v.passes ≡ 0 → v.loose ≡ false → v.key ≡ Some k → Rests next permits fits k v.promise i f then
         → segment.Steps (holds k) seat v i f (λ n w. (l : K) → v.key ≡ Some l → HomeTold start next fits l tick v i f then n w)
-    home_moves seat tick v i f then zero_is no_pass key asked = subst (λ (z : ℕ). segment.Steps (holds k) z v i f (λ n w. (l : K) → v.key ≡ Some l → HomeTold start next fits l tick v i f then n w)) (sym zero_is)
+    home_moves seat tick v i f then zero_is no_pass whole key asked = subst (λ (z : ℕ). segment.Steps (holds k) z v i f (λ n w. (l : K) → v.key ≡ Some l → HomeTold start next fits l tick v i f then n w)) (sym zero_is)
         (λ s kept at small.
         let r : Rule s = from k s kept in
         let t : T = state_after (next k) (start k) v.seen in
         let e : v ≡ r.home = alone s v no_pass r at in
-        let fit : fits k v.promise s.words t [] = subst (λ (z : ℕ × List E × List X). fits k z.0 s.words (state_after (next k) (start k) z.1) z.2) (λ z. (ap (λ (y : V). y.promise) (sym e) z, knows_all s v no_pass r at z, no_notes s v no_pass r at z)) r.container in
+        let fit : fits k v.promise s.words t [] = subst (λ (z : ℕ × List E × List X). fits k z.0 s.words (state_after (next k) (start k) z.1) z.2) (λ z. (ap (λ (y : V). y.promise) (sym e) z, knows_all s v no_pass r at z, no_notes s v no_pass r at z)) (r.container (ap (λ (y : V). y.loose) (sym e) ∙ whole)) in
         let m = asked s.words t fit small in
         let es : List E = events (next k) v.rank t m.0 in
         let after_words : List ℕ = slice_set s.words i (f (slice_index s.words i)) in
@@ -335,8 +340,8 @@ module _ {C A X K T : Type 0} (ranks : K → ℕ) (start : K → T) (next : K �
           λ l is. subst (λ (z : K). HomeTold start next fits z tick v i f then (slice_index s.words i) (gone_on tick v es after_words)) (same_some k l (sym key ∙ is)) (record { words = s.words; known = λ ws e'. (r.known ws (ap (λ (y : V). y.words) (sym e) ∙ e')).0; fit = fit; found = refl; did = m.0; fact = m.2; after = refl; legal = legal }),
         ))
 
-    pub home_puts : (seat : ℕ) (tick : Tick) (v : V) (i new : ℕ) (then : ℕ → T → List C → Type 0) → seat ≡ 0 → v.passes ≡ 0 → v.key ≡ Some k → Rests next permits fits k v.promise i (λ _. new) (λ _. then new)
+    pub home_puts : (seat : ℕ) (tick : Tick) (v : V) (i new : ℕ) (then : ℕ → T → List C → Type 0) → seat ≡ 0 → v.passes ≡ 0 → v.loose ≡ false → v.key ≡ Some k → Rests next permits fits k v.promise i (λ _. new) (λ _. then new)
         → segment.Steps (holds k) seat v i (λ _. new) (λ _ w. (l : K) → v.key ≡ Some l → HomeTold start next fits l tick v i (λ _. new) then new w)
-    home_puts seat tick v i new then zero_is no_pass key asked s kept at small =
-        let m = home_moves seat tick v i (λ _. new) (λ _. then new) zero_is no_pass key asked s kept at small in
+    home_puts seat tick v i new then zero_is no_pass whole key asked s kept at small =
+        let m = home_moves seat tick v i (λ _. new) (λ _. then new) zero_is no_pass whole key asked s kept at small in
         (m.0, m.1, λ l is. let told = m.2 l is in record { words = told.words; known = told.known; fit = told.fit; found = refl; did = told.did; fact = told.fact; after = told.after; legal = told.legal })

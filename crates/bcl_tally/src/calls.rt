@@ -73,3 +73,25 @@ pub fn clear(home: &mut Home<Tally>, place: u32, n: u64)
         &(place, n),
     );
 }
+
+/// Tries the word of a rank: puts a number there, reads it back, and puts back the number that was there. Two gets and two
+/// puts, and no call: in between the words mean nothing, so the home lets them be loose.
+pub fn try_word(home: Home<Tally>, place: u32, n: u64) -> (Home<Tally>, u64)
+    requires shape { IsShaped (home_key home) (home_heads home) (home_layout home) }
+    requires place { place < home_key home }
+    ensures found { result.1 ≡ n }
+    ensures seen { (home_view result.0).seen ≡ (home_view home).seen }
+    ensures same { IsSameHome home result.0 }
+    ensures cost { ((home_view result.0).gets ≡ (home_view home).gets + 2) × ((home_view result.0).puts ≡ (home_view home).puts + 2) }
+{
+    let number = Spot::At(GlobalPtr {
+        rank: place,
+        offset: 0,
+    });
+    let mut loose = home.loosen();
+    let was = loose.get(number);
+    loose.put(number, n);
+    let found = loose.get(number);
+    loose.put(number, was);
+    (loose.mend(), found)
+}

@@ -5,7 +5,7 @@ ghost use Rattle.bcl_phase.specs.Parts.{lead_key, lead_layout, lead_heads};
 ghost use Rattle.bcl_tally.specs.Calls.{IsShaped};
 ghost use Rattle.bcl_tally.specs.Parts.{pass_view, IsOf};
 
-use crate::{Adder, Tally, TallyPass, clear, open, read, read_both};
+use crate::{Adder, Tally, TallyPass, clear, open, read, read_both, try_word};
 use bcl_phase::{Always, Any, Kit, Lead, Own, superstep};
 use bcl_words::NoMemory;
 use std::alloc::AllocError;
@@ -114,5 +114,15 @@ fn the_numbers_of_two_ranks_are_read_together(rt: HostRuntime) -> Result<(), Fai
     clear(&mut home, 1, 4);
     assert!(rt; read_both(&mut home, 0, 1) == (3, 4));
     assert!(rt; read_both(&mut home, 1, 1) == (4, 4));
+    Ok(())
+}
+
+#[test]
+fn a_word_is_as_it_was_once_it_was_tried(rt: HostRuntime) -> Result<(), Fail> {
+    let mut home = open(rt.alloc(), 2)?;
+    clear(&mut home, 1, 4);
+    let (mut home, found) = try_word(home, 1, 9);
+    assert_eq!(rt; found, 9);
+    assert!(rt; read_both(&mut home, 0, 1) == (0, 4));
     Ok(())
 }
