@@ -1,6 +1,6 @@
 -- What a contract sees of a filter's home and of its lead, and when a pass is of a lead.
 -- Both are those of the phase. The key of a filter is its layout.
-use Rattle.std.specs.Prelude.{◌≡◌, Some}
+use Rattle.std.specs.Prelude.{◌≡◌}
 use Rattle.atomic_table.specs.Seated.{TableId}
 use Rattle.bcl_segment.specs.declared.layout.Layout.{Layout}
 use Rattle.bcl_phase.specs.declared.view.View.{View}

@@ -51,11 +51,15 @@ impl<K: Object> Phased for Filter<K> {
 
     ghost rest = { tt };
 
+    ghost idle = { λ _. Unit {0} };
+
+    ghost rests = { tt };
+
     ghost fits = { fits K.WORDS };
 
     ghost admits = { λ k p ws t xs few fit. fit };
 
-    ghost releases = { λ k p ws t xs fit. fit };
+    ghost releases = { λ k p ws t xs y idle fit. fit };
 
     ghost begins = { λ k p q ws t fit. fit };
 

@@ -70,7 +70,10 @@ impl<K: Object> FilterLead<K> {
         ensures refused_passes { IfErr result (λ e. (i : ℕ) (p : _) → get_elem? passes.items i ≡ some p → Returned (filter.lead_view self).start (filter.home_view e.home).seen i (filter.pass_view p)) }
         ensures refused_home { IfErr result (λ e. filter.IsLeadOf self e.home) }
     {
-        match self.lead.turn::<P, Q, FilterPass<P, K>, FilterPass<Q, K>>(alloc, passes) {
+        match self
+            .lead
+            .turn::<P, Q, FilterPass<P, K>, FilterPass<Q, K>>(alloc, passes)
+        {
             Ok((lead, passes)) => Ok((FilterLead { lead }, passes)),
             Err(refused) => Err(Refused {
                 home: FilterHome { home: refused.home },

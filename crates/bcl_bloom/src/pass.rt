@@ -79,7 +79,9 @@ impl<K: Object> FilterPass<Any, K> {
         let block = block_of(self.pass.layout(), h);
         let bits = bits_of(h);
         let marks = block_with(&bits);
-        let old = self.pass.fetch_or::<Brand, K>(&lead.lead, block, marks, key);
+        let old = self
+            .pass
+            .fetch_or::<Brand, K>(&lead.lead, block, marks, key);
         are_set(old, &bits)
     }
 

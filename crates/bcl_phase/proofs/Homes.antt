@@ -1,6 +1,8 @@
 -- The home keeps the rule as it cuts passes, takes them back, begins a phase, and steps alone.
-use Rattle.std.proofs.Common.{◌≡◌, ◌≢◌, ℕ, zero, suc, ◌+◌, ◌<◌, ◌≤◌, List, [], ◌∷◌, ◌++◌, length, slice_index, slice_set, set, refl, sym, ap, ◌∙◌, subst, ⊎_elim, arith, le_refl, ◌⊎◌, inl, inr, Some}
+use Rattle.std.proofs.Common.{◌≡◌, ◌≢◌, ℕ, zero, suc, ◌+◌, ◌<◌, ◌≤◌, List, [], ◌∷◌, ◌++◌, length, slice_index, slice_set, set, refl, sym, ap, ◌∙◌, subst, ⊎_elim, arith, le_refl, ◌⊎◌, inl, inr, Some, None, false}
 use Rattle.std.specs.List.{All}
+use Rattle.std.proofs.lemmas.Option.{none-some}
+use Rattle.std.proofs.lemmas.Bool.{false≢true}
 use Rattle.std.proofs.lemmas.List.Elements.{All-nil, All-append, All-cons, All-head, All-tail}
 use mathlib.Core.Logic.{dite}
 use native.Mathlib.Decide.{ℕ_discrete}
@@ -79,8 +81,8 @@ module _ {C A X K T : Type 0} (ranks : K → ℕ) (start : K → T) (next : K �
   Admits = (p : ℕ) (ws : List ℕ) (t : T) (xs : List X) → length xs < ranks k → fits k p ws t xs → fits k p ws t (xs ++ rest ∷ [])
 
   -- the last rank, with no call in flight, is taken off
-  abbrev Releases : Type 0
-  Releases = (p : ℕ) (ws : List ℕ) (t : T) (xs : List X) → fits k p ws t (xs ++ rest ∷ []) → fits k p ws t xs
+  abbrev Releases : (X → Type 0) → Type 0
+  Releases idle = (p : ℕ) (ws : List ℕ) (t : T) (xs : List X) (y : X) → idle y → fits k p ws t (xs ++ y ∷ []) → fits k p ws t xs
 
   -- where no rank is left, another promise may begin
   abbrev Begins : Type 0
@@ -89,9 +91,9 @@ module _ {C A X K T : Type 0} (ranks : K → ℕ) (start : K → T) (next : K �
   home_is : (s : S) (r : Rule s) (v : V) → get_elem? s.views 0 ≡ plain.some v → v ≡ r.home
   home_is s r v at = sym (some-injective r.home v (subst (λ (l : List V). get_elem? l 0 ≡ plain.some v) r.views at))
 
-  splits_kept : (s : S) (v : V) → v.passes < v.rank → v.back ≡ [] → Admits → Rule s → get_elem? s.views 0 ≡ plain.some v
+  splits_kept : (s : S) (v : V) → v.passes < v.rank → v.back ≡ [] → v.words ≡ None → v.loose ≡ false → Admits → Rule s → get_elem? s.views 0 ≡ plain.some v
       → Rule (record s { views = set s.views 0 (cuts v) ++ cut rest v ∷ [] })
-  splits_kept s v room none_back admits r at =
+  splits_kept s v room none_back no_words whole admits r at =
       let e : v ≡ r.home = home_is s r v at in
       let h : List E = r.history in
       let home : V = cuts r.home in
@@ -127,14 +129,16 @@ module _ {C A X K T : Type 0} (ranks : K → ℕ) (start : K → T) (next : K �
             (λ (y' : (q ≡ length r.others) × (right ≡ w)). y.0 ∙ sym y'.0) (snoc_cases r.others right w q is'))
             (snoc_cases r.others right u p is);
         few = omega arith;
+        known = λ ws is. absurd (none-some ws (sym no_words ∙ (ap (λ (z : V). z.words) e ∙ is)));
         counted = longer_by_one r.notes rest ∙ ap (λ (z : ℕ). z + 1) r.counted;
-        container = admits r.home.promise s.words (state_after (next k) (start k) h) r.notes (let c = r.counted in omega arith) r.container;
+        alone = λ is. absurd (false≢true (sym whole ∙ (ap (λ (z : V). z.loose) e ∙ is)));
+        container = λ is. admits r.home.promise s.words (state_after (next k) (start k) h) r.notes (let c = r.counted in omega arith) (r.container is);
       }
 
-  joins_kept : (s : S) (v : V) (other : ℕ) (w : V) → w.role ≡ Pass → w.rank + 1 ≡ v.passes → w.note ≡ rest → Releases → Rule s
+  joins_kept : (idle : X → Type 0) (s : S) (v : V) (other : ℕ) (w : V) → w.role ≡ Pass → w.rank + 1 ≡ v.passes → idle w.note → Releases idle → Rule s
       → get_elem? s.views 0 ≡ plain.some v → other ≢ 0 → get_elem? (set s.views 0 (takes v w)) other ≡ plain.some w
       → Rule (record s { views = set (set s.views 0 (takes v w)) other (spent rest) })
-  joins_kept s v other w pass last idle releases r at apart there =
+  joins_kept idle s v other w pass last rests releases r at apart there =
       let e : v ≡ r.home = home_is s r v at in
       let h : List E = r.history in
       let home : V = takes r.home w in
@@ -143,7 +147,7 @@ module _ {C A X K T : Type 0} (ranks : K → ℕ) (start : K → T) (next : K �
       let both = r.live j w at_others.2 pass in
       let live : IsLive k r.home h w = both.0 in
       let last' : w.rank + 1 ≡ r.home.passes = last ∙ ap (λ (z : V). z.passes) e in
-      let fr = front r.notes w.rank rest (let c = r.counted in omega arith) (both.1 ∙ ap plain.some idle) in
+      let fr = front r.notes w.rank w.note (let c = r.counted in omega arith) both.1 in
       let seen : List E = longer r.home.seen w.seen in
       let first : IsPrefix r.home.seen seen = longer_first r.home.seen w.seen h r.seen live.3 in
       let second : IsPrefix w.seen seen = longer_second r.home.seen w.seen h r.seen live.3 in
@@ -170,7 +174,7 @@ module _ {C A X K T : Type 0} (ranks : K → ℕ) (start : K → T) (next : K �
             (λ (y : (q ≢ j) × (get_elem? r.others q ≡ plain.some u)). let o = r.live q u y.1 lives in let l = o.0 in let below = l.1 in
             let not : u.rank ≢ w.rank = λ same. y.0 (r.apart q j u w y.1 at_others.2 lives pass same) in (
               (l.0, omega arith, l.2, l.3, l.4, l.5, l.6),
-              ⊎_elim (λ old. old) (λ (z : (u.rank ≡ length fr.0) × (rest ≡ u.note)). absurd (not (z.0 ∙ fr.2))) (snoc_cases fr.0 rest u.note u.rank (subst (λ (m : List X). get_elem? m u.rank ≡ plain.some u.note) fr.1 o.1)),
+              ⊎_elim (λ old. old) (λ (z : (u.rank ≡ length fr.0) × (w.note ≡ u.note)). absurd (not (z.0 ∙ fr.2))) (snoc_cases fr.0 w.note u.note u.rank (subst (λ (m : List X). get_elem? m u.rank ≡ plain.some u.note) fr.1 o.1)),
             ))
             (at_set r.others j q (spent rest) u is);
         apart = λ p q u u' is is' lives lives' same. ⊎_elim (λ (y : (p ≡ j) × (spent rest ≡ u)). absurd (spent_is_no_pass (ap (λ (z : V). z.role) y.1 ∙ lives)))
@@ -178,8 +182,10 @@ module _ {C A X K T : Type 0} (ranks : K → ℕ) (start : K → T) (next : K �
             (λ (y' : (q ≢ j) × (get_elem? r.others q ≡ plain.some u')). r.apart p q u u' y.1 y'.1 lives lives' same) (at_set r.others j q (spent rest) u' is'))
             (at_set r.others j p (spent rest) u is);
         few = let f = r.few in omega arith;
+        known = λ ws is. let none = (r.known ws is).1 in absurd (omega arith);
         counted = fr.2;
-        container = releases r.home.promise s.words (state_after (next k) (start k) h) fr.0 (subst (fits k r.home.promise s.words (state_after (next k) (start k) h)) fr.1 r.container);
+        alone = λ is. let none = r.alone is in absurd (omega arith);
+        container = λ is. releases r.home.promise s.words (state_after (next k) (start k) h) fr.0 w.note rests (subst (fits k r.home.promise s.words (state_after (next k) (start k) h)) fr.1 (r.container is));
       }
     where
       came : (h : List E) (w home : V) → w.rank + 1 ≡ home.passes → IsLive k home h w
@@ -191,16 +197,16 @@ module _ {C A X K T : Type 0} (ranks : K → ℕ) (start : K → T) (next : K �
 
   -- what a home knows that no pass is out of: the whole history, with no call in flight
   module _ (s : S) (v : V) (no_pass : v.passes ≡ 0) (r : Rule s) (at : get_elem? s.views 0 ≡ plain.some v) where
-    alone : v ≡ r.home
+    pub alone : v ≡ r.home
     alone = home_is s r v at
 
-    none_out : r.home.passes ≡ 0
+    pub none_out : r.home.passes ≡ 0
     none_out = ap (λ (z : V). z.passes) (sym alone) ∙ no_pass
 
-    knows_all : r.history ≡ v.seen
+    pub knows_all : r.history ≡ v.seen
     knows_all = whole r.home.seen r.history r.seen (λ q. r.gone q (let none = none_out in omega arith)) ∙ ap (λ (z : V). z.seen) (sym alone)
 
-    no_notes : r.notes ≡ []
+    pub no_notes : r.notes ≡ []
     no_notes = none_left r.notes (r.counted ∙ none_out)
 
     -- since the start the home has made no event
@@ -254,25 +260,27 @@ module _ {C A X K T : Type 0} (ranks : K → ℕ) (start : K → T) (next : K �
       live = λ q u is lives. let below = (r.live q u is lives).0.1 in absurd (omega arith);
       apart = r.apart;
       few = r.few;
+      known = λ ws is. absurd (none-some ws is);
       counted = sym none;
-      container = subst (λ (z : List ℕ). fits k c z (state_after (next k) (start k) r.history) []) (sym (set-get_or s.words i 0))
-          (begin r.home.promise c s.words (state_after (next k) (start k) r.history) (subst (fits k r.home.promise s.words (state_after (next k) (start k) r.history)) no_notes r.container));
+      alone = r.alone;
+      container = λ is. subst (λ (z : List ℕ). fits k c z (state_after (next k) (start k) r.history) []) (sym (set-get_or s.words i 0))
+          (begin r.home.promise c s.words (state_after (next k) (start k) r.history) (subst (fits k r.home.promise s.words (state_after (next k) (start k) r.history)) no_notes (r.container is)));
     }
 
     went_on : (tick : Tick) (i n : ℕ) (did : List C)
         → fits k v.promise (slice_set s.words i n) (state_after (next k) (start k) (v.seen ++ events (next k) v.rank (state_after (next k) (start k) v.seen) did)) []
         → IsLegal (next k) (start k) (v.seen ++ events (next k) v.rank (state_after (next k) (start k) v.seen) did)
-        → Rule (segment.stepped s i n 0 (gone_on tick v (events (next k) v.rank (state_after (next k) (start k) v.seen) did)))
+        → Rule (segment.stepped s i n 0 (gone_on tick v (events (next k) v.rank (state_after (next k) (start k) v.seen) did) (slice_set s.words i n)))
     went_on tick i n did fit legal = let none = none_out in
         let es : List E = events (next k) v.rank (state_after (next k) (start k) v.seen) did in
         let h : List E = v.seen ++ es in
         let rank : v.rank ≡ ranks k = ap (λ (z : V). z.rank) alone ∙ r.is_home.2 in record {
-          home = gone_on tick v es;
+          home = gone_on tick v es (slice_set s.words i n);
           others = r.others;
           history = h;
           late = [];
           notes = [];
-          views = λ z. set (r.views z) 0 (gone_on tick v es);
+          views = λ z. set (r.views z) 0 (gone_on tick v es (slice_set s.words i n));
           is_home = (ap (λ (z : V). z.role) alone ∙ r.is_home.0, ap (λ (z : V). z.key) alone ∙ r.is_home.1, rank);
           legal = legal;
           named = All-append (λ (e : E). e.rank ≤ ranks k) v.seen es (subst (All (λ (e : E). e.rank ≤ ranks k)) knows_all r.named)
@@ -287,18 +295,20 @@ module _ {C A X K T : Type 0} (ranks : K → ℕ) (start : K → T) (next : K �
           live = λ q u is lives. let below = (r.live q u is lives).0.1 in absurd (omega arith);
           apart = r.apart;
           few = omega arith;
+          known = λ ws is. (same_some (slice_set s.words i n) ws is, no_pass);
           counted = sym no_pass;
-          container = fit;
+          alone = λ _. no_pass;
+          container = λ _. fit;
         }
 
   module _ (holds : K → S → Type 0) (from : (l : K) (s : S) → holds l s → Kept ranks start next permits fits l s) (back : (l : K) (s : S) → Kept ranks start next permits fits l s → holds l s) where
-    pub splits : (seat : ℕ) (v : V) → seat ≡ 0 → v.passes < v.rank → v.back ≡ [] → Admits → segment.Splits (holds k) seat v (cuts v) (cut rest v)
-    splits seat v zero_is room none_back admits = subst (λ (z : ℕ). segment.Splits (holds k) z v (cuts v) (cut rest v)) (sym zero_is)
-        (λ s kept at. back k (record s { views = set s.views 0 (cuts v) ++ cut rest v ∷ [] }) (splits_kept s v room none_back admits (from k s kept) at))
+    pub splits : (seat : ℕ) (v : V) → seat ≡ 0 → v.passes < v.rank → v.back ≡ [] → v.words ≡ None → v.loose ≡ false → Admits → segment.Splits (holds k) seat v (cuts v) (cut rest v)
+    splits seat v zero_is room none_back no_words whole admits = subst (λ (z : ℕ). segment.Splits (holds k) z v (cuts v) (cut rest v)) (sym zero_is)
+        (λ s kept at. back k (record s { views = set s.views 0 (cuts v) ++ cut rest v ∷ [] }) (splits_kept s v room none_back no_words whole admits (from k s kept) at))
 
-    pub joins : (seat : ℕ) (v : V) (other : ℕ) (w : V) → seat ≡ 0 → w.role ≡ Pass → w.rank + 1 ≡ v.passes → w.note ≡ rest → Releases → segment.Joins (holds k) seat v other w (takes v w) (spent rest)
-    joins seat v other w zero_is pass last idle releases = subst (λ (z : ℕ). segment.Joins (holds k) z v other w (takes v w) (spent rest)) (sym zero_is)
-        (λ s kept at apart there. back k (record s { views = set (set s.views 0 (takes v w)) other (spent rest) }) (joins_kept s v other w pass last idle releases (from k s kept) at apart there))
+    pub joins : (idle : X → Type 0) (seat : ℕ) (v : V) (other : ℕ) (w : V) → seat ≡ 0 → w.role ≡ Pass → w.rank + 1 ≡ v.passes → idle w.note → Releases idle → segment.Joins (holds k) seat v other w (takes v w) (spent rest)
+    joins idle seat v other w zero_is pass last rests releases = subst (λ (z : ℕ). segment.Joins (holds k) z v other w (takes v w) (spent rest)) (sym zero_is)
+        (λ s kept at apart there. back k (record s { views = set (set s.views 0 (takes v w)) other (spent rest) }) (joins_kept idle s v other w pass last rests releases (from k s kept) at apart there))
 
     -- a home that no pass is out of begins a phase, and is told of the one before
     pub turns : (seat : ℕ) (v : V) (i c : ℕ) → seat ≡ 0 → v.passes ≡ 0 → v.key ≡ Some k → Begins
@@ -311,26 +321,27 @@ module _ {C A X K T : Type 0} (ranks : K → ℕ) (start : K → T) (next : K �
         ))
 
     -- a home that no pass is out of makes a step
-    pub home_moves : (seat : ℕ) (tick : Tick) (v : V) (i : ℕ) (f : ℕ → ℕ) (then : ℕ → T → List C → Type 0) → seat ≡ 0 → v.passes ≡ 0 → v.key ≡ Some k → Rests next permits fits k v.promise i f then
-        → segment.Steps (holds k) seat v i f (λ n w. (l : K) → v.key ≡ Some l → HomeTold start next l tick v then n w)
-    home_moves seat tick v i f then zero_is no_pass key asked = subst (λ (z : ℕ). segment.Steps (holds k) z v i f (λ n w. (l : K) → v.key ≡ Some l → HomeTold start next l tick v then n w)) (sym zero_is)
+    pub home_moves : (seat : ℕ) (tick : Tick) (v : V) (i : ℕ) (f : ℕ → ℕ) (then : ℕ → T → List C → Type 0) → seat ≡ 0 → v.passes ≡ 0 → v.loose ≡ false → v.key ≡ Some k → Rests next permits fits k v.promise i f then
+        → segment.Steps (holds k) seat v i f (λ n w. (l : K) → v.key ≡ Some l → HomeTold start next fits l tick v i f then n w)
+    home_moves seat tick v i f then zero_is no_pass whole key asked = subst (λ (z : ℕ). segment.Steps (holds k) z v i f (λ n w. (l : K) → v.key ≡ Some l → HomeTold start next fits l tick v i f then n w)) (sym zero_is)
         (λ s kept at small.
         let r : Rule s = from k s kept in
         let t : T = state_after (next k) (start k) v.seen in
         let e : v ≡ r.home = alone s v no_pass r at in
-        let fit : fits k v.promise s.words t [] = subst (λ (z : ℕ × List E × List X). fits k z.0 s.words (state_after (next k) (start k) z.1) z.2) (λ z. (ap (λ (y : V). y.promise) (sym e) z, knows_all s v no_pass r at z, no_notes s v no_pass r at z)) r.container in
+        let fit : fits k v.promise s.words t [] = subst (λ (z : ℕ × List E × List X). fits k z.0 s.words (state_after (next k) (start k) z.1) z.2) (λ z. (ap (λ (y : V). y.promise) (sym e) z, knows_all s v no_pass r at z, no_notes s v no_pass r at z)) (r.container (ap (λ (y : V). y.loose) (sym e) ∙ whole)) in
         let m = asked s.words t fit small in
         let es : List E = events (next k) v.rank t m.0 in
+        let after_words : List ℕ = slice_set s.words i (f (slice_index s.words i)) in
         let legal : IsLegal (next k) (start k) (v.seen ++ es) = legal-append (next k) (start k) v.seen es (subst (IsLegal (next k) (start k)) (knows_all s v no_pass r at) r.legal) (legal_events (next k) v.rank t m.0) in
         let after : state_after (next k) (start k) (v.seen ++ es) ≡ state_by (next k) t m.0 = after-append (next k) (start k) v.seen es ∙ after_events (next k) v.rank t m.0 in (
-          gone_on tick v es,
-          back k (segment.stepped s i (f (slice_index s.words i)) 0 (gone_on tick v es)) (went_on s v no_pass r at tick i (f (slice_index s.words i)) m.0
+          gone_on tick v es after_words,
+          back k (segment.stepped s i (f (slice_index s.words i)) 0 (gone_on tick v es after_words)) (went_on s v no_pass r at tick i (f (slice_index s.words i)) m.0
               (subst (λ (z : T). fits k v.promise (slice_set s.words i (f (slice_index s.words i))) z []) (sym after) m.1) legal),
-          λ l is. subst (λ (z : K). HomeTold start next z tick v then (slice_index s.words i) (gone_on tick v es)) (same_some k l (sym key ∙ is)) (record { did = m.0; fact = m.2; after = refl; legal = legal }),
+          λ l is. subst (λ (z : K). HomeTold start next fits z tick v i f then (slice_index s.words i) (gone_on tick v es after_words)) (same_some k l (sym key ∙ is)) (record { words = s.words; known = λ ws e'. (r.known ws (ap (λ (y : V). y.words) (sym e) ∙ e')).0; fit = fit; found = refl; did = m.0; fact = m.2; after = refl; legal = legal }),
         ))
 
-    pub home_puts : (seat : ℕ) (tick : Tick) (v : V) (i new : ℕ) (then : ℕ → T → List C → Type 0) → seat ≡ 0 → v.passes ≡ 0 → v.key ≡ Some k → Rests next permits fits k v.promise i (λ _. new) (λ _. then new)
-        → segment.Steps (holds k) seat v i (λ _. new) (λ _ w. (l : K) → v.key ≡ Some l → HomeTold start next l tick v then new w)
-    home_puts seat tick v i new then zero_is no_pass key asked s kept at small =
-        let m = home_moves seat tick v i (λ _. new) (λ _. then new) zero_is no_pass key asked s kept at small in
-        (m.0, m.1, λ l is. let told = m.2 l is in record { did = told.did; fact = told.fact; after = told.after; legal = told.legal })
+    pub home_puts : (seat : ℕ) (tick : Tick) (v : V) (i new : ℕ) (then : ℕ → T → List C → Type 0) → seat ≡ 0 → v.passes ≡ 0 → v.loose ≡ false → v.key ≡ Some k → Rests next permits fits k v.promise i (λ _. new) (λ _. then new)
+        → segment.Steps (holds k) seat v i (λ _. new) (λ _ w. (l : K) → v.key ≡ Some l → HomeTold start next fits l tick v i (λ _. new) then new w)
+    home_puts seat tick v i new then zero_is no_pass whole key asked s kept at small =
+        let m = home_moves seat tick v i (λ _. new) (λ _. then new) zero_is no_pass whole key asked s kept at small in
+        (m.0, m.1, λ l is. let told = m.2 l is in record { words = told.words; known = told.known; fit = told.fit; found = refl; did = told.did; fact = told.fact; after = told.after; legal = told.legal })

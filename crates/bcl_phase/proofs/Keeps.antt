@@ -1,7 +1,9 @@
 -- Each step of a pass keeps the rule, whatever the container.
-use Rattle.std.proofs.Common.{◌≡◌, ◌≢◌, ℕ, zero, suc, ◌+◌, ◌≤◌, List, [], ◌∷◌, ◌++◌, slice_index, slice_set, set, refl, sym, ap, ◌∙◌, subst, ⊎_elim, arith, length-set, Some}
+use Rattle.std.proofs.Common.{◌≡◌, ◌≢◌, ℕ, zero, suc, ◌+◌, ◌≤◌, List, [], ◌∷◌, ◌++◌, slice_index, slice_set, set, refl, sym, ap, ◌∙◌, subst, ⊎_elim, arith, length-set, Some, Bool, true, false}
 use Rattle.std.specs.List.{All}
 use Rattle.std.proofs.lemmas.List.Elements.{All-nil, All-append}
+use Rattle.std.proofs.lemmas.Option.{none-some}
+use Rattle.std.proofs.lemmas.Bool.{false≢true}
 use mathlib.Core.Option as plain
 use mathlib.Core.Option.{some-injective, some-ne-none}
 use mathlib.Core.List.{IsPrefix, append-nil, append_assoc, append_cancel_left}
@@ -29,6 +31,10 @@ home_is_no_pass e = subst is_pass (sym e) tt
 
 pub spent_is_no_pass : Spent ≡ Pass → ⊥
 spent_is_no_pass e = subst is_pass (sym e) tt
+
+pub not_true : (b : Bool) → (b ≡ true → ⊥) → b ≡ false
+not_true true h = absurd (h refl)
+not_true false h = refl
 
 set_at : {Y : Type 0} (l : List Y) (i : ℕ) (a b : Y) → get_elem? l i ≡ plain.some b → get_elem? (set l i a) i ≡ plain.some a
 set_at [] i a b e = absurd (some-ne-none b (sym e))
@@ -76,8 +82,10 @@ module _ {C A X K T : Type 0} (ranks : K → ℕ) (start : K → T) (next : K �
     live = λ j v e _. absurd (some-ne-none v (sym e));
     apart = λ i j v w e _ _ _ _. absurd (some-ne-none v (sym e));
     few = omega arith;
+    known = λ ws e. absurd (none-some ws e);
     counted = refl;
-    container = h;
+    alone = λ e. absurd (false≢true e);
+    container = λ _. h;
   }
 
   pub opens_as : (k : K) (ws : List ℕ) (rest : X) (v : V) → v ≡ opened k (ranks k) rest → fits k 0 ws (start k) [] → Rule k (segment.opened ws v)
@@ -111,9 +119,10 @@ module _ {C A X K T : Type 0} (ranks : K → ℕ) (start : K → T) (next : K �
           let j : ℕ = b.0 in
           let both = r.live j v b.2 role in
           let live : IsLive k r.home r.history v = both.0 in
+          let whole : r.home.loose ≡ false = not_true r.home.loose (λ e. let none = r.alone e in let l = live.1 in omega arith) in
           let h : List E = r.history in
           let t : T = state_after (next k) (start k) h in
-          let m = asked s.words t r.notes both.1 (subst (λ (z : ℕ). fits k z s.words t r.notes) (sym live.2) r.container) small in
+          let m = asked s.words t r.notes both.1 (subst (λ (z : ℕ). fits k z s.words t r.notes) (sym live.2) (r.container whole)) small in
           let did : List C = m.0 in
           let x : X = m.1 in
           let es : List E = events (next k) v.rank t did in
@@ -161,8 +170,10 @@ module _ {C A X K T : Type 0} (ranks : K → ℕ) (start : K → T) (next : K �
                   (λ (y' : (q ≢ j) × (get_elem? r.others q ≡ plain.some u')). r.apart p q u u' y.1 y'.1 is is' same) (at_set r.others j q w u' e'))
                   (at_set r.others j p w u e);
               few = r.few;
+              known = λ ws e. let none = (r.known ws e).1 in let l = live.1 in absurd (omega arith);
               counted = length-set r.notes v.rank x ∙ r.counted;
-              container = subst (λ (z : ℕ × T). fits k z.0 (slice_set s.words i (f (slice_index s.words i))) z.1 notes')
+              alone = r.alone;
+              container = λ _. subst (λ (z : ℕ × T). fits k z.0 (slice_set s.words i (f (slice_index s.words i))) z.1 notes')
                   (λ z. (live.2 z, sym (after-append (next k) (start k) h es ∙ after_events (next k) v.rank t did) z)) m.3;
             }),
             λ l is. subst (λ (z : K). Took ranks start next permits z tick v w × Told start next z v then (slice_index s.words i) w) (same_some k l (sym key ∙ is)) (

@@ -1,6 +1,6 @@
--- What a contract sees of a home, of a lead and of a pass.
+-- What a contract sees of a home, of one whose words are loose, of a lead and of a pass.
 -- Each has a view, and the segments that it is of are known by the id of their table, their key and their layout.
-use Rattle.std.specs.Prelude.{◌≡◌, ℕ, Some}
+use Rattle.std.specs.Prelude.{◌≡◌, ℕ, List, Some}
 use Rattle.atomic_table.specs.Seated.{TableId}
 use Rattle.bcl_segment.specs.declared.layout.Layout.{Layout}
 use Rattle.bcl_segment.specs.declared.layout.Spot.{Spot}
@@ -8,8 +8,10 @@ use Rattle.bcl_segment.specs.Parts as segment
 use Rattle.bcl_segment.specs.Resting.{resting_view}
 use Rattle.bcl_phase.specs.declared.view.View.{View}
 use Rattle.bcl_phase.specs.declared.home.Home.{Home}
+use Rattle.bcl_phase.specs.declared.loose.Loose.{Loose}
 use Rattle.bcl_phase.specs.declared.lead.Lead.{Lead}
 use Rattle.bcl_phase.specs.declared.pass.Pass.{Pass}
+use Rattle.bcl_phase.specs.Views.{words_of}
 
 abbrev pub home_view : {R C A T X K : Type 0} {g : _} → Home R C A T X K g → View C A X K
 home_view home = segment.view_of home.owned.seat
@@ -33,6 +35,32 @@ home_word home spot = segment.word_of home.owned.segments spot
 
 abbrev pub HomeHasSpot : {R C A T X K : Type 0} {g : _} → Home R C A T X K g → Spot → Type 0
 HomeHasSpot home spot = segment.HasSpot home.owned.segments spot
+
+-- the same of a home whose words are loose
+abbrev pub loose_view : {R C A T X K : Type 0} {g : _} → Loose R C A T X K g → View C A X K
+loose_view loose = segment.view_of loose.owned.seat
+
+-- its words, which it knows
+abbrev pub loose_words : {R C A T X K : Type 0} {g : _} → Loose R C A T X K g → List ℕ
+loose_words loose = words_of (loose_view loose)
+
+abbrev pub loose_id : {R C A T X K : Type 0} {g : _} → Loose R C A T X K g → TableId
+loose_id loose = segment.id_of loose.owned.segments
+
+abbrev pub loose_key : {R C A T X K : Type 0} {g : _} → Loose R C A T X K g → K
+loose_key loose = segment.key_of loose.owned.segments
+
+abbrev pub loose_layout : {R C A T X K : Type 0} {g : _} → Loose R C A T X K g → Layout
+loose_layout loose = segment.layout_of loose.owned.segments
+
+abbrev pub loose_heads : {R C A T X K : Type 0} {g : _} → Loose R C A T X K g → ℕ
+loose_heads loose = segment.heads_of loose.owned.segments
+
+abbrev pub loose_word : {R C A T X K : Type 0} {g : _} → Loose R C A T X K g → Spot → ℕ
+loose_word loose spot = segment.word_of loose.owned.segments spot
+
+abbrev pub LooseHasSpot : {R C A T X K : Type 0} {g : _} → Loose R C A T X K g → Spot → Type 0
+LooseHasSpot loose spot = segment.HasSpot loose.owned.segments spot
 
 abbrev pub lead_view : {R C A T X K : Type 0} {g : _} → Lead R C A T X K g → View C A X K
 lead_view lead = resting_view lead.home
@@ -72,6 +100,12 @@ IsOf pass lead = (segment.table_of pass.seat ≡ lead_id lead) × ((pass_view pa
 -- the home is of the same segments
 abbrev pub IsSameHome : {R C A T X K : Type 0} {g : _} {h : _} → Home R C A T X K g → Home R C A T X K h → Type 0
 IsSameHome old new = (home_id new ≡ home_id old) × (home_key new ≡ home_key old) × (home_layout new ≡ home_layout old) × (home_heads new ≡ home_heads old)
+
+abbrev pub IsLooseOf : {R C A T X K : Type 0} {g : _} {h : _} → Loose R C A T X K g → Home R C A T X K h → Type 0
+IsLooseOf loose home = (loose_id loose ≡ home_id home) × (loose_key loose ≡ home_key home) × (loose_layout loose ≡ home_layout home) × (loose_heads loose ≡ home_heads home)
+
+abbrev pub IsSameLoose : {R C A T X K : Type 0} {g : _} {h : _} → Loose R C A T X K g → Loose R C A T X K h → Type 0
+IsSameLoose old new = (loose_id new ≡ loose_id old) × (loose_key new ≡ loose_key old) × (loose_layout new ≡ loose_layout old) × (loose_heads new ≡ loose_heads old)
 
 abbrev pub IsLeadOf : {R C A T X K : Type 0} {g : _} {h : _} → Lead R C A T X K g → Home R C A T X K h → Type 0
 IsLeadOf lead home = (lead_id lead ≡ home_id home) × (lead_key lead ≡ home_key home) × (lead_layout lead ≡ home_layout home) × (lead_heads lead ≡ home_heads home)

@@ -1,6 +1,6 @@
 -- How a phase begins and ends, of the views of the home, of the lead and of the passes.
 -- The history as the phase begins is what the home has seen, and the history as it ends what the home has seen then.
-use Rattle.std.specs.Prelude.{◌≡◌, ℕ, ◌≤◌, List, [], ◌++◌, Some}
+use Rattle.std.specs.Prelude.{◌≡◌, ℕ, ◌≤◌, List, [], ◌++◌, Some, None, false}
 use Rattle.std.specs.List.{All}
 use mathlib.Core.List.{IsPrefix}
 use Rattle.bcl_event.specs.declared.event.Event.{Event}
@@ -12,7 +12,7 @@ use Rattle.bcl_phase.specs.Rule.{IsPermitted}
 module _ {C A X K : Type 0} where
   -- the pass of a rank as a phase begins: it has seen the history, no step is counted, and no call is in flight
   abbrev pub begun : X → ℕ → K → List (Event C A) → ℕ → View C A X K
-  begun rest promise key history rank = record { role = Pass; key = Some key; rank = rank; promise = promise; seen = history; mine = of rank history; gets = 0; puts = 0; atomics = 0; note = rest; passes = 0; start = []; back = [] }
+  begun rest promise key history rank = record { role = Pass; key = Some key; rank = rank; promise = promise; seen = history; mine = of rank history; gets = 0; puts = 0; atomics = 0; note = rest; passes = 0; start = []; back = []; words = None; loose = false }
 
   -- what the home of the end knows of the pass of a rank
   pub record Returned (start history : List (Event C A)) (rank : ℕ) (pass : View C A X K) : Type 0 where

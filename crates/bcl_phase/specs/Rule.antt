@@ -1,6 +1,6 @@
 -- The rule that the words of every container keep: one history, of which each seat knows a beginning.
 -- The container adds what its words mean: its sequential object, what a promise permits, and how words, state and calls in flight fit.
-use Rattle.std.specs.Prelude.{◌≡◌, ℕ, ◌+◌, ◌<◌, ◌≤◌, ◌^◌, List, [], ◌∷◌, ◌++◌, length, slice_index, slice_set, Some}
+use Rattle.std.specs.Prelude.{◌≡◌, ℕ, ◌+◌, ◌<◌, ◌≤◌, ◌^◌, List, [], ◌∷◌, ◌++◌, length, slice_index, slice_set, Some, true, false}
 use Rattle.std.specs.List.{All}
 use mathlib.Core.Option as plain
 use mathlib.Core.List.{IsPrefix}
@@ -48,8 +48,10 @@ module _ {C A X K T : Type 0} (ranks : K → ℕ) (start : K → T) (next : K �
     pub live : (j : ℕ) (v : View C A X K) → get_elem? others j ≡ plain.some v → v.role ≡ Pass → IsLive key home history v × (get_elem? notes v.rank ≡ plain.some v.note)
     pub apart : (i j : ℕ) (v w : View C A X K) → get_elem? others i ≡ plain.some v → get_elem? others j ≡ plain.some w → v.role ≡ Pass → w.role ≡ Pass → v.rank ≡ w.rank → i ≡ j
     pub few : home.passes ≤ ranks key
+    pub known : (ws : List ℕ) → home.words ≡ Some ws → (s.words ≡ ws) × (home.passes ≡ 0)
     pub counted : length notes ≡ home.passes
-    pub container : fits key home.promise s.words (state_after (next key) (start key) history) notes
+    pub alone : home.loose ≡ true → home.passes ≡ 0
+    pub container : home.loose ≡ false → fits key home.promise s.words (state_after (next key) (start key) history) notes
 
 -- What a container shows of one step of a pass: whatever the words, the state and the notes of the ranks, as the word i becomes f of what it was,
 -- the rank may make calls, in which the object goes on, and may have another note, so that the container's own rule stays, and `then` holds of the number found, of the state before, of the calls and of the note after

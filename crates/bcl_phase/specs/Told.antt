@@ -1,6 +1,6 @@
 -- What a step tells the seat that makes it, of its view before and after.
 -- Each step tells how the view has changed; and of the history as it was, the calls that the step makes there.
-use Rattle.std.specs.Prelude.{◌≡◌, ℕ, ◌≤◌, List, ◌++◌}
+use Rattle.std.specs.Prelude.{◌≡◌, ℕ, ◌≤◌, List, [], ◌++◌, slice_index, slice_set, Some}
 use Rattle.std.specs.List.{All}
 use mathlib.Core.Option as plain
 use mathlib.Core.List.{IsPrefix}
@@ -47,9 +47,14 @@ module _ {C A X K T : Type 0} (start : K → T) (next : K → T → C → A × T
     pub seen : w.seen ≡ seen_by v.seen history (events (next k) v.rank (state_after (next k) (start k) history) did)
     pub mine : w.mine ≡ v.mine ++ events (next k) v.rank (state_after (next k) (start k) history) did
 
-  -- of a step of the home: the calls that the step makes, and that `then` holds of the number found, of the state and of these calls
-  pub record HomeTold (k : K) (tick : Tick) (v : View C A X K) (then : ℕ → T → List C → Type 0) (n : ℕ) (w : View C A X K) : Type 0 where
+module _ {C A X K T : Type 0} (start : K → T) (next : K → T → C → A × T) (fits : K → ℕ → List ℕ → T → List X → Type 0) where
+  -- of a step of the home, as the word i becomes f of what it was: the words as they were, which fit, and the number there; the calls that the step makes, and that `then` holds of this number, of the state and of these calls
+  pub record HomeTold (k : K) (tick : Tick) (v : View C A X K) (i : ℕ) (f : ℕ → ℕ) (then : ℕ → T → List C → Type 0) (n : ℕ) (w : View C A X K) : Type 0 where
+    pub words : List ℕ
+    pub known : (ws : List ℕ) → v.words ≡ Some ws → words ≡ ws
+    pub fit : fits k v.promise words (state_after (next k) (start k) v.seen) []
+    pub found : f n ≡ f (slice_index words i)
     pub did : List C
     pub fact : then n (state_after (next k) (start k) v.seen) did
-    pub after : w ≡ gone_on tick v (events (next k) v.rank (state_after (next k) (start k) v.seen) did)
+    pub after : w ≡ gone_on tick v (events (next k) v.rank (state_after (next k) (start k) v.seen) did) (slice_set words i (f (slice_index words i)))
     pub legal : IsLegal (next k) (start k) w.seen

@@ -1,6 +1,6 @@
 -- How views change: as a home is opened and begins a phase, as passes are cut from it and come back, and at a step.
 -- A view is a home's, a pass's, or what is left of a pass that came back.
-use Rattle.std.specs.Prelude.{ℕ, ◌+◌, List, [], ◌∷◌, ◌++◌, Some, None}
+use Rattle.std.specs.Prelude.{ℕ, ◌+◌, List, [], ◌∷◌, ◌++◌, Some, None, true, false, Option}
 use Rattle.bcl_event.specs.declared.event.Event.{Event}
 use Rattle.bcl_event.specs.History.{of}
 use Rattle.bcl_phase.specs.declared.view.View.{View}
@@ -27,6 +27,11 @@ atomics_after get n = n
 atomics_after put n = n
 atomics_after atomic n = n + 1
 
+-- the words that are known, if any are
+abbrev pub known_words : Option (List ℕ) → List ℕ
+known_words None = []
+known_words (Some words) = words
+
 -- the longer of two beginnings of one list
 abbrev pub longer : {E : Type 0} → List E → List E → List E
 longer [] ys = ys
@@ -41,15 +46,15 @@ seen_by seen history (e ∷ es) = history ++ e ∷ es
 module _ {C A X K : Type 0} where
   -- the first view: of the container's key, the number of its ranks, and the note of no call in flight
   abbrev pub opened : K → ℕ → X → View C A X K
-  opened key ranks rest = record { role = Home; key = Some key; rank = ranks; promise = 0; seen = []; mine = []; gets = 0; puts = 0; atomics = 0; note = rest; passes = 0; start = []; back = [] }
+  opened key ranks rest = record { role = Home; key = Some key; rank = ranks; promise = 0; seen = []; mine = []; gets = 0; puts = 0; atomics = 0; note = rest; passes = 0; start = []; back = []; words = None; loose = false }
 
   -- what is left of a pass that came back
   abbrev pub spent : X → View C A X K
-  spent rest = record { role = Spent; key = None; rank = 0; promise = 0; seen = []; mine = []; gets = 0; puts = 0; atomics = 0; note = rest; passes = 0; start = []; back = [] }
+  spent rest = record { role = Spent; key = None; rank = 0; promise = 0; seen = []; mine = []; gets = 0; puts = 0; atomics = 0; note = rest; passes = 0; start = []; back = []; words = None; loose = false }
 
-  -- a home as it begins a phase
+  -- a home as it begins a phase: it knows its words no longer, as others may change them
   abbrev pub begins : ℕ → View C A X K → View C A X K
-  begins promise v = record v { promise = promise; start = v.seen; back = [] }
+  begins promise v = record v { promise = promise; start = v.seen; back = []; words = None }
 
   -- a home that cuts a pass for the next rank
   abbrev pub cuts : View C A X K → View C A X K
@@ -57,7 +62,7 @@ module _ {C A X K : Type 0} where
 
   -- that pass
   abbrev pub cut : X → View C A X K → View C A X K
-  cut rest v = record { role = Pass; key = v.key; rank = v.passes; promise = v.promise; seen = v.seen; mine = of v.passes v.seen; gets = 0; puts = 0; atomics = 0; note = rest; passes = 0; start = []; back = [] }
+  cut rest v = record { role = Pass; key = v.key; rank = v.passes; promise = v.promise; seen = v.seen; mine = of v.passes v.seen; gets = 0; puts = 0; atomics = 0; note = rest; passes = 0; start = []; back = []; words = None; loose = false }
 
   -- a home that takes back the pass of its last rank
   abbrev pub takes : View C A X K → View C A X K → View C A X K
@@ -67,6 +72,22 @@ module _ {C A X K : Type 0} where
   abbrev pub moved : Tick → View C A X K → List (Event C A) → List (Event C A) → X → View C A X K
   moved tick v history es note = record v { seen = seen_by v.seen history es; mine = v.mine ++ es; note = note; gets = gets_after tick v.gets; puts = puts_after tick v.puts; atomics = atomics_after tick v.atomics }
 
-  -- a home that no pass is out of, after a step that adds these events
-  abbrev pub gone_on : Tick → View C A X K → List (Event C A) → View C A X K
-  gone_on tick v es = record v { seen = v.seen ++ es; mine = v.mine ++ es; start = v.seen ++ es; back = []; gets = gets_after tick v.gets; puts = puts_after tick v.puts; atomics = atomics_after tick v.atomics }
+  -- a home that no pass is out of, after a step that adds these events and leaves these words
+  abbrev pub gone_on : Tick → View C A X K → List (Event C A) → List ℕ → View C A X K
+  gone_on tick v es words = record v { words = Some words; seen = v.seen ++ es; mine = v.mine ++ es; start = v.seen ++ es; back = []; gets = gets_after tick v.gets; puts = puts_after tick v.puts; atomics = atomics_after tick v.atomics }
+
+  -- the words that a home knows
+  abbrev pub words_of : View C A X K → List ℕ
+  words_of v = known_words v.words
+
+  -- a home whose words are loose from then on, and which knows them
+  abbrev pub loosened : List ℕ → View C A X K → View C A X K
+  loosened words v = record v { words = Some words; loose = true }
+
+  -- a home whose words are loose, after a step that leaves these words
+  abbrev pub loose_after : Tick → List ℕ → View C A X K → View C A X K
+  loose_after tick words v = record v { words = Some words; loose = true; gets = gets_after tick v.gets; puts = puts_after tick v.puts; atomics = atomics_after tick v.atomics }
+
+  -- a home whose words fit again
+  abbrev pub mended : List ℕ → View C A X K → View C A X K
+  mended words v = record v { words = Some words; loose = false }

@@ -1,7 +1,8 @@
 //! The steps of a home, as no call is in flight.
 //!
 //! The home has the container alone, so it knows the whole history. It counts as the rank whose number is the number of
-//! ranks, and a step may make calls of its own.
+//! ranks, and a step may make calls of its own. From its first step on it knows the words too, so what it reads in several
+//! steps belongs together.
 
 ghost use Rattle.std.specs.Prelude.{◌≡◌};
 ghost use Rattle.bcl_phase.specs.Views.{get as a_get, put as a_put};
@@ -18,7 +19,7 @@ impl<R: Phased> Home<R> {
     pub fn get<M: Learns<R::State, R::Call, R::Note>, E>(&mut self, spot: Spot, about: &E) -> u64
         requires spot { HomeHasSpot self.old spot }
         requires step { Rests R.next R.permits R.fits (home_key self.old) (home_view self.old).promise (home_word self.old spot) (λ n. n) (λ n t did. M.then n t did R.rest) }
-        ensures told { HomeTold R.start R.next (home_key self.old) a_get (home_view self.old) (λ n t did. M.then n t did R.rest) result (home_view self.new) }
+        ensures told { HomeTold R.start R.next R.fits (home_key self.old) a_get (home_view self.old) (home_word self.old spot) (λ n. n) (λ n t did. M.then n t did R.rest) result (home_view self.new) }
         ensures same { IsSameHome self.old self.new }
     {
         let owned = &mut self.owned;
@@ -34,7 +35,7 @@ impl<R: Phased> Home<R> {
     )
         requires spot { HomeHasSpot self.old spot }
         requires step { Rests R.next R.permits R.fits (home_key self.old) (home_view self.old).promise (home_word self.old spot) (λ _. word) (λ _ t did. M.then word t did R.rest) }
-        ensures told { HomeTold R.start R.next (home_key self.old) a_put (home_view self.old) (λ n t did. M.then n t did R.rest) word (home_view self.new) }
+        ensures told { HomeTold R.start R.next R.fits (home_key self.old) a_put (home_view self.old) (home_word self.old spot) (λ _. word) (λ n t did. M.then n t did R.rest) word (home_view self.new) }
         ensures same { IsSameHome self.old self.new }
     {
         let owned = &mut self.owned;

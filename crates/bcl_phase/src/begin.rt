@@ -1,6 +1,6 @@
 //! How a container is made, and how a phase begins.
 
-ghost use Rattle.std.specs.Prelude.{◌≡◌, ℕ, ◌+◌, ◌≤◌, ◌<◌, ◌^◌, [], length, vec_capacity, IfOk, IfErr};
+ghost use Rattle.std.specs.Prelude.{◌≡◌, ℕ, ◌+◌, ◌≤◌, ◌<◌, ◌^◌, [], length, vec_capacity, None, false, IfOk, IfErr};
 ghost use mathlib.Core.Option.{some};
 ghost use lib.ListN.{get_elem?};
 ghost use Rattle.bcl_segment.specs.Places.{places};
@@ -103,7 +103,7 @@ fn deal<R: Phased, P: Promise, W: Wraps<Inner = Pass<R, P>>>(
     mut passes: Vec<W>,
 ) -> Vec<W>
     requires home { IsHomeSeat segments.now seat.old × (layout ≡ layout_of segments.now) }
-    requires begins { ((view_of seat.old).promise ≡ P.CODE) × ((view_of seat.old).back ≡ []) × ((view_of seat.old).passes ≡ 0) }
+    requires begins { ((view_of seat.old).promise ≡ P.CODE) × ((view_of seat.old).back ≡ []) × ((view_of seat.old).passes ≡ 0) × ((view_of seat.old).words ≡ None) × ((view_of seat.old).loose ≡ false) }
     requires takes { (rank : ℕ) (p : _) → pass_view p ≡ begun R.rest P.CODE (key_of segments.now) (view_of seat.old).seen rank → pass_layout p ≡ layout → W.takes p }
     requires room { (passes.items ≡ []) × (layout.ranks ≤ vec_capacity passes) }
     ensures seat { IsSameSeat seat.old seat.new }

@@ -15,14 +15,15 @@ impl<R: Phased> Lead<R> {
     ///
     /// One join for each rank, the last rank first, and one load of the first word. It never refuses.
     ///
-    /// Condition: the passes are all those of this lead, rank i at place i, and no call of theirs is in flight.
+    /// Condition: the passes are all those of this lead, rank i at place i, and no call of theirs is in flight, whatever
+    /// their notes know of earlier calls.
     pub fn end<P: Promise, W: Wraps<Inner = Pass<R, P>>>(self, mut passes: Vec<W>) -> Home<R>
     where
         R: Grants<P>,
         requires all { length passes.items ≡ (lead_layout self).ranks }
         requires of { (i : ℕ) (p : _) → get_elem? passes.items i ≡ some p → IsOf (W.inner p) self }
         requires ranks { (i : ℕ) (p : _) → get_elem? passes.items i ≡ some p → (pass_view (W.inner p)).rank ≡ i }
-        requires rest { (i : ℕ) (p : _) → get_elem? passes.items i ≡ some p → (pass_view (W.inner p)).note ≡ R.rest }
+        requires rest { (i : ℕ) (p : _) → get_elem? passes.items i ≡ some p → R.idle (pass_view (W.inner p)).note }
         ensures ended { Ended R.ranks R.start R.next R.permits (lead_key self) (lead_view self).promise (lead_view self).start (home_view result).seen }
         ensures passes { (i : ℕ) (p : _) → get_elem? passes.items i ≡ some p → Returned (lead_view self).start (home_view result).seen i (pass_view (W.inner p)) }
         ensures home { IsLeadOf self result }

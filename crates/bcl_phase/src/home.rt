@@ -1,6 +1,6 @@
 //! Who has a container alone.
 
-ghost use Rattle.std.specs.Prelude.{◌≡◌, ◌<◌};
+ghost use Rattle.std.specs.Prelude.{◌≡◌, ◌<◌, false};
 ghost use Rattle.bcl_segment.specs.Parts.{layout_of, heads_of, view_of, HasSpot};
 ghost use Rattle.bcl_phase.specs.Seats.{IsHomeSeat};
 
@@ -36,4 +36,5 @@ pub(crate) fn first_spot<R: Phased>(segments: &Segments<R>, heads: u32) -> Spot
 pub struct Home<R: Phased> {
     pub(crate) owned: Owned<R>,
     pub ghost alone: { (view_of owned.seat).passes ≡ 0 },
+    pub ghost whole: { (view_of owned.seat).loose ≡ false },
 }

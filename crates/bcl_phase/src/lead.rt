@@ -1,6 +1,6 @@
 //! Who has begun a phase, and ends it.
 
-ghost use Rattle.std.specs.Prelude.{◌≡◌, []};
+ghost use Rattle.std.specs.Prelude.{◌≡◌, [], false};
 ghost use Rattle.bcl_segment.specs.Parts.{layout_of, heads_of};
 ghost use Rattle.bcl_segment.specs.Resting.{resting_view};
 ghost use Rattle.bcl_phase.specs.Seats.{IsRestingHome};
@@ -19,5 +19,6 @@ pub struct Lead<R: Phased> {
     ghost shape: { layout ≡ layout_of segments },
     ghost front: { heads ≡ heads_of segments },
     pub ghost shared: { (resting_view home).passes ≡ layout.ranks },
+    pub ghost whole: { (resting_view home).loose ≡ false },
     pub ghost none_back: { (resting_view home).back ≡ [] },
 }

@@ -24,7 +24,8 @@
 //! - `home`, `lead`, `pass`: the three who hold seats. `specs/Parts.antt` says what a contract sees of them. `wraps`: a
 //!   container's own pass, over that of the phase.
 //! - `begin`, `end`, `turn`: how a phase begins and ends, by `specs/Phases.antt`.
-//! - `learns`, `steps`: the steps of a pass, and what each tells, by `specs/Told.antt`. `alone`: the steps of a home.
+//! - `learns`, `steps`: the steps of a pass, and what each tells, by `specs/Told.antt`. `alone`: the steps of a home, and
+//!   `loose`: those of one whose words need not fit.
 //! - `specs/Stands.antt`: what the contract of every container's call cites.
 //! - `flight`: a call in flight on an object of several words, and `specs/Flights.antt` where such words stand.
 //! - `kit`, `gate`: supersteps.
@@ -42,6 +43,7 @@ mod home;
 mod kit;
 mod lead;
 mod learns;
+mod loose;
 mod pass;
 mod phased;
 mod promise;
@@ -62,8 +64,8 @@ pub use home::Home;
 pub use kit::{Kit, superstep, superstep_all};
 pub use lead::Lead;
 pub use learns::Learns;
+pub use loose::Loose;
 pub use pass::Pass;
-
 pub use phased::{Grants, Phased};
 pub use promise::{Add, Any, Find, FindInsert, Own, Pop, Promise, Push, PushPop, Read};
 pub use refused::Refused;

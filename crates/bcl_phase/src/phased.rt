@@ -41,17 +41,23 @@ pub trait Phased: Rule<View = View<Self::Call, Self::Reply, Self::Note, <Self as
     // Whether a promise permits a rank a call.
     ghost permits: { Self.Key → ℕ → ℕ → Self.Call → Type 0 };
 
-    // No call in flight.
+    // The first note: no call in flight, and nothing known of one before.
     ghost rest: { Self.Note };
+
+    // The notes with no call in flight, whatever is known of calls before.
+    ghost idle: { Self.Note → Type 0 };
 
     // How the words, the state and the note of each live rank fit, under a promise.
     ghost fits: { Self.Key → ℕ → List ℕ → Self.State → List Self.Note → Type 0 };
+
+    // The first note is one of them.
+    ghost rests: { idle rest };
 
     // One more rank comes, with no call in flight.
     ghost admits: { (k : Self.Key) (p : ℕ) (ws : List ℕ) (t : Self.State) (xs : List Self.Note) → length xs < ranks k → fits k p ws t xs → fits k p ws t (xs ++ rest ∷ []) };
 
     // The last rank goes, with no call in flight.
-    ghost releases: { (k : Self.Key) (p : ℕ) (ws : List ℕ) (t : Self.State) (xs : List Self.Note) → fits k p ws t (xs ++ rest ∷ []) → fits k p ws t xs };
+    ghost releases: { (k : Self.Key) (p : ℕ) (ws : List ℕ) (t : Self.State) (xs : List Self.Note) (y : Self.Note) → idle y → fits k p ws t (xs ++ y ∷ []) → fits k p ws t xs };
 
     // Where no rank is left, another promise begins.
     ghost begins: { (k : Self.Key) (p q : ℕ) (ws : List ℕ) (t : Self.State) → fits k p ws t [] → fits k q ws t [] };

@@ -1,7 +1,8 @@
 //! What each kind of step tells, in the words of the segments.
 
-ghost use Rattle.std.specs.Prelude.{◌≡◌, Some};
-ghost use Rattle.bcl_phase.specs.Views.{get as a_get, put as a_put, atomic as an_atomic, begins, cuts, cut, takes, spent};
+ghost use Rattle.std.specs.Prelude.{◌≡◌, ℕ, List, [], Some, slice_index, slice_set};
+ghost use Rattle.bcl_event.specs.History.{state_after};
+ghost use Rattle.bcl_phase.specs.Views.{get as a_get, put as a_put, atomic as an_atomic, begins, cuts, cut, takes, spent, words_of, loosened, loose_after, mended};
 ghost use Rattle.bcl_phase.specs.Told.{Took, Told, Ends, HomeTold};
 
 use crate::{Learns, Phased, Promise};
@@ -42,7 +43,7 @@ pub(crate) struct HomeGets<R, M> {
 }
 
 impl<R: Phased, M: Learns<R::State, R::Call, R::Note>> Tells<R::View> for HomeGets<R, M> {
-    ghost then = { λ _ _ _ v n w. (k : R.Key) → v.key ≡ Some k → HomeTold R.start R.next k a_get v (λ m t did. M.then m t did R.rest) n w };
+    ghost then = { λ i _ _ v n w. (k : R.Key) → v.key ≡ Some k → HomeTold R.start R.next R.fits k a_get v i (λ m. m) (λ m t did. M.then m t did R.rest) n w };
 }
 
 /// A put of a home.
@@ -51,7 +52,43 @@ pub(crate) struct HomePuts<R, M> {
 }
 
 impl<R: Phased, M: Learns<R::State, R::Call, R::Note>> Tells<R::View> for HomePuts<R, M> {
-    ghost then = { λ _ _ _ v n w. (k : R.Key) → v.key ≡ Some k → HomeTold R.start R.next k a_put v (λ m t did. M.then m t did R.rest) n w };
+    ghost then = { λ i word _ v n w. (k : R.Key) → v.key ≡ Some k → HomeTold R.start R.next R.fits k a_put v i (λ _. word) (λ m t did. M.then m t did R.rest) n w };
+}
+
+/// A home lets its words be loose.
+pub(crate) struct Loosens<R> {
+    of: PhantomData<R>,
+}
+
+impl<R: Phased> Tells<R::View> for Loosens<R> {
+    ghost then = { λ _ _ _ v _ w. (ws : List ℕ) × (w ≡ loosened ws v) × ((vs : List ℕ) → v.words ≡ Some vs → ws ≡ vs) × ((k : R.Key) → v.key ≡ Some k → R.fits k v.promise ws (state_after (R.next k) (R.start k) v.seen) []) };
+}
+
+/// A get of a home whose words are loose.
+pub(crate) struct LooseGets<R> {
+    of: PhantomData<R>,
+}
+
+impl<R: Phased> Tells<R::View> for LooseGets<R> {
+    ghost then = { λ i _ _ v n w. (w ≡ loose_after a_get (words_of v) v) × (n ≡ slice_index (words_of v) i) };
+}
+
+/// A put of a home whose words are loose.
+pub(crate) struct LoosePuts<R> {
+    of: PhantomData<R>,
+}
+
+impl<R: Phased> Tells<R::View> for LoosePuts<R> {
+    ghost then = { λ i word _ v _ w. w ≡ loose_after a_put (slice_set (words_of v) i word) v };
+}
+
+/// A home whose words fit again.
+pub(crate) struct Mends<R> {
+    of: PhantomData<R>,
+}
+
+impl<R: Phased> Tells<R::View> for Mends<R> {
+    ghost then = { λ _ _ _ v _ w. w ≡ mended (words_of v) v };
 }
 
 /// A home begins a phase under the promise P, and is told of the one before.

@@ -26,7 +26,7 @@ impl<R: Phased> Lead<R> {
         requires all { length passes.items ≡ (lead_layout self).ranks }
         requires of { (i : ℕ) (p : _) → get_elem? passes.items i ≡ some p → IsOf (W.inner p) self }
         requires ranks { (i : ℕ) (p : _) → get_elem? passes.items i ≡ some p → (pass_view (W.inner p)).rank ≡ i }
-        requires rest { (i : ℕ) (p : _) → get_elem? passes.items i ≡ some p → (pass_view (W.inner p)).note ≡ R.rest }
+        requires rest { (i : ℕ) (p : _) → get_elem? passes.items i ≡ some p → R.idle (pass_view (W.inner p)).note }
         ensures ended { IfOk result (λ r. Ended R.ranks R.start R.next R.permits (lead_key self) (lead_view self).promise (lead_view self).start (lead_view r.0).start) }
         ensures passes { IfOk result (λ r. (i : ℕ) (p : _) → get_elem? passes.items i ≡ some p → Returned (lead_view self).start (lead_view r.0).start i (pass_view (W.inner p))) }
         ensures count { IfOk result (λ r. length r.1.items ≡ (lead_layout self).ranks) }

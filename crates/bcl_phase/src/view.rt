@@ -42,4 +42,8 @@ pub struct View<C, A, X, K> {
     pub start: LinkedList<Event<C, A>>,
     /// Of a home: what each pass that came back had seen, and its own events, the last that came first.
     pub back: LinkedList<(LinkedList<Event<C, A>>, LinkedList<Event<C, A>>)>,
+    /// Of a home: the words, from a step of its own on until a phase begins.
+    pub words: Option<LinkedList<u64>>,
+    /// Of a home: that its words are loose, and need not fit. No pass is out then.
+    pub loose: bool,
 }

@@ -1,6 +1,6 @@
 -- What the calls of a tally say, of its home, its lead and its passes.
 -- Each rank's segment is one word, and there are no head words.
-use Rattle.std.specs.Prelude.{◌≡◌, ℕ, List, [], ◌∷◌}
+use Rattle.std.specs.Prelude.{◌≡◌, ℕ, List, [], ◌∷◌, slice_index, Some}
 use Rattle.bcl_event.specs.declared.event.Event.{Event}
 use Rattle.bcl_event.specs.History.{state_after}
 use Rattle.bcl_segment.specs.declared.layout.Layout.{Layout}
@@ -21,6 +21,10 @@ IsShaped k heads layout = (heads ≡ 0) × (layout.ranks ≡ k) × (layout.per_r
 -- the numbers that a history leaves
 abbrev pub numbers : ℕ → List (Event Call Reply) → List ℕ
 numbers k history = state_after (next k) (start k) history
+
+-- a home that knows its words, in which this number is at the place, and which are those that it knew before if it knew any
+abbrev pub Knows : View Call Reply Note ℕ → View Call Reply Note ℕ → ℕ → ℕ → Type 0
+Knows old new place n = (ws : List ℕ) × (new.words ≡ Some ws) × ((vs : List ℕ) → old.words ≡ Some vs → ws ≡ vs) × (n ≡ slice_index ws place)
 
 abbrev pub Stands : ℕ → View Call Reply Note ℕ → View Call Reply Note ℕ → List (Event Call Reply) → Type 0
 Stands k old new es = phase.Stands ranks start next permits k old new es

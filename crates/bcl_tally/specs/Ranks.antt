@@ -29,8 +29,8 @@ shorter (x ∷ xs) ys (suc r) m e = shorter xs ys r m e
 pub admitted : (k p : ℕ) (ws t : List ℕ) (xs : List Note) → length xs < ranks k → fits k p ws t xs → fits k p ws t (xs ++ Rest ∷ [])
 admitted k p ws t xs room fit = (fit.0, fit.1, λ r m e. fit.2 r m (longer xs r m e))
 
-pub released : (k p : ℕ) (ws t : List ℕ) (xs : List Note) → fits k p ws t (xs ++ Rest ∷ []) → fits k p ws t xs
-released k p ws t xs fit = (fit.0, fit.1, λ r m e. fit.2 r m (shorter xs (Rest ∷ []) r m e))
+pub released : (k p : ℕ) (ws t : List ℕ) (xs : List Note) (y : Note) → y ≡ Rest → fits k p ws t (xs ++ y ∷ []) → fits k p ws t xs
+released k p ws t xs y idle fit = (fit.0, fit.1, λ r m e. fit.2 r m (shorter xs (y ∷ []) r m e))
 
 pub begun_again : (k p q : ℕ) (ws t : List ℕ) → fits k p ws t [] → fits k q ws t []
 begun_again k p q ws t fit = (fit.0, fit.1, λ r m e. absurd (some-ne-none (Got m) (sym e)))

@@ -1,11 +1,11 @@
 //! How a tally is opened, and the steps of its home.
 
-ghost use Rattle.std.specs.Prelude.{◌≡◌, ◌+◌, ◌<◌, ◌≤◌, [], ◌∷◌, ◌++◌, slice_index, IfOk};
+ghost use Rattle.std.specs.Prelude.{◌≡◌, ℕ, List, ◌+◌, ◌<◌, ◌≤◌, [], ◌∷◌, ◌++◌, slice_index, Some, IfOk};
 ghost use Rattle.bcl_event.specs.History.{events};
 ghost use Rattle.bcl_phase.specs.Parts.{home_view, home_key, home_layout, home_heads, IsSameHome};
 ghost use Rattle.bcl_tally.specs.declared.tally.Call.TheVariants.{Swap};
 ghost use Rattle.bcl_tally.specs.Tally.{next};
-ghost use Rattle.bcl_tally.specs.Calls.{IsShaped, numbers};
+ghost use Rattle.bcl_tally.specs.Calls.{IsShaped, Knows, numbers};
 
 use crate::tally::Tally;
 use bcl_phase::Home;
@@ -31,6 +31,7 @@ pub fn read(home: &mut Home<Tally>, place: u32) -> u64
     requires shape { IsShaped (home_key home.old) (home_heads home.old) (home_layout home.old) }
     requires place { place < home_key home.old }
     ensures value { result ≡ slice_index (numbers (home_key home.old) (home_view home.old).seen) place }
+    ensures knows { Knows (home_view home.old) (home_view home.new) place result }
     ensures seen { (home_view home.new).seen ≡ (home_view home.old).seen }
     ensures same { IsSameHome home.old home.new }
 {
@@ -41,6 +42,19 @@ pub fn read(home: &mut Home<Tally>, place: u32) -> u64
         }),
         &place,
     )
+}
+
+/// The numbers of two ranks. Two gets, and both are of the one list of words that the home then knows.
+pub fn read_both(home: &mut Home<Tally>, first: u32, second: u32) -> (u64, u64)
+    requires shape { IsShaped (home_key home.old) (home_heads home.old) (home_layout home.old) }
+    requires places { (first < home_key home.old) × (second < home_key home.old) }
+    ensures together { (ws : List ℕ) × ((home_view home.new).words ≡ Some ws) × (result.0 ≡ slice_index ws first) × (result.1 ≡ slice_index ws second) }
+    ensures seen { (home_view home.new).seen ≡ (home_view home.old).seen }
+    ensures same { IsSameHome home.old home.new }
+{
+    let one = read(home, first);
+    let other = read(home, second);
+    (one, other)
 }
 
 /// Puts a number in the place of a rank's. It counts as two exchanges of the home, the first of which clears it. One put.
@@ -60,3 +74,24 @@ pub fn clear(home: &mut Home<Tally>, place: u32, n: u64)
     );
 }
 
+/// Tries the word of a rank: puts a number there, reads it back, and puts back the number that was there. Two gets and two
+/// puts, and no call: in between the words mean nothing, so the home lets them be loose.
+pub fn try_word(home: Home<Tally>, place: u32, n: u64) -> (Home<Tally>, u64)
+    requires shape { IsShaped (home_key home) (home_heads home) (home_layout home) }
+    requires place { place < home_key home }
+    ensures found { result.1 ≡ n }
+    ensures seen { (home_view result.0).seen ≡ (home_view home).seen }
+    ensures same { IsSameHome home result.0 }
+    ensures cost { ((home_view result.0).gets ≡ (home_view home).gets + 2) × ((home_view result.0).puts ≡ (home_view home).puts + 2) }
+{
+    let number = Spot::At(GlobalPtr {
+        rank: place,
+        offset: 0,
+    });
+    let mut loose = home.loosen();
+    let was = loose.get(number);
+    loose.put(number, n);
+    let found = loose.get(number);
+    loose.put(number, was);
+    (loose.mend(), found)
+}

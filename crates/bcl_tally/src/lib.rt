@@ -3,7 +3,7 @@
 //! - `tally`: its calls, replies and notes, and its rule.
 //! - `pass`: an addition of one step under `Any`, and an exchange of two steps under `Own`, with a call in flight between
 //!   them.
-//! - `calls`: how it is opened, and the steps of a home.
+//! - `calls`: how it is opened, and the steps of a home, also of one whose words are loose.
 //! - `adder`: a rank's part in a superstep.
 #![tactic(auto)]
 
@@ -15,6 +15,6 @@ mod tally;
 mod tests;
 
 pub use adder::Adder;
-pub use calls::{clear, open, read};
+pub use calls::{clear, open, read, read_both, try_word};
 pub use pass::TallyPass;
 pub use tally::{Call, Note, Reply, Tally};

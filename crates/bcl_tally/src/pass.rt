@@ -73,7 +73,8 @@ impl TallyPass<Any> {
         ensures of { IsOf self.new lead.now }
         ensures cost { (pass_view self.new).atomics ≡ (pass_view self.old).atomics + 1 }
     {
-        self.pass.fetch_add::<Brand, Call>(lead, number_of(lead, place), n, &Call::Add { place, n })
+        self.pass
+            .fetch_add::<Brand, Call>(lead, number_of(lead, place), n, &Call::Add { place, n })
     }
 
     /// Adds to the number of a rank, so many times.
@@ -91,12 +92,7 @@ impl TallyPass<Any> {
 
     /// Makes a step of each other kind on the number of a rank, none of which changes it, and answers the number as each
     /// found it. A won exchange, a fetch_sub, a fetch_or and a fetch_min.
-    pub fn touch(
-        &mut self,
-        lead: &Lead<Tally>,
-        place: u32,
-        guess: u64,
-    ) -> [Result<u64, u64>; 4]
+    pub fn touch(&mut self, lead: &Lead<Tally>, place: u32, guess: u64) -> [Result<u64, u64>; 4]
         requires of { IsOf self.old lead.now }
         requires shape { IsShaped (lead_key lead.now) (lead_heads lead.now) (lead_layout lead.now) }
         requires place { place < lead_key lead.now }
@@ -108,7 +104,9 @@ impl TallyPass<Any> {
         let exchanged = self.pass.cas::<Brand, ()>(lead, number, guess, guess, &());
         let lowered = self.pass.fetch_sub::<Brand, ()>(lead, number, 0, &());
         let marked = self.pass.fetch_or::<Brand, ()>(lead, number, 0, &());
-        let least = self.pass.fetch_min::<Brand, ()>(lead, number, u64::MAX, &());
+        let least = self
+            .pass
+            .fetch_min::<Brand, ()>(lead, number, u64::MAX, &());
         [exchanged, Ok(lowered), Ok(marked), Ok(least)]
     }
 }
@@ -129,7 +127,8 @@ impl TallyPass<Own> {
         let place = self.rank();
         let number = number_of(lead, place);
         let old = self.pass.get::<Brand, ()>(lead, number, &());
-        self.pass.put::<Brand, (Call, u64)>(lead, number, n, &(Call::Swap { place, n }, old));
+        self.pass
+            .put::<Brand, (Call, u64)>(lead, number, n, &(Call::Swap { place, n }, old));
         old
     }
 }

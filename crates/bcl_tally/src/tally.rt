@@ -49,7 +49,7 @@ impl Rule for Tally {
 }
 
 impl Phased for Tally {
-    ghost use Rattle.std.specs.Prelude.{refl};
+    ghost use Rattle.std.specs.Prelude.{◌≡◌, refl};
     ghost use Rattle.bcl_tally.specs.Ranks.{admitted, released, begun_again};
     ghost use Rattle.bcl_tally.specs.declared.tally.Note.TheVariants.{Rest};
 
@@ -70,6 +70,10 @@ impl Phased for Tally {
     ghost permits = { permits };
 
     ghost rest = { Rest };
+
+    ghost idle = { λ x. x ≡ Rest };
+
+    ghost rests = { refl };
 
     ghost fits = { fits };
 

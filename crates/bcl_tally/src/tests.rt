@@ -5,7 +5,7 @@ ghost use Rattle.bcl_phase.specs.Parts.{lead_key, lead_layout, lead_heads};
 ghost use Rattle.bcl_tally.specs.Calls.{IsShaped};
 ghost use Rattle.bcl_tally.specs.Parts.{pass_view, IsOf};
 
-use crate::{Adder, Tally, TallyPass, clear, open, read};
+use crate::{Adder, Tally, TallyPass, clear, open, read, read_both, try_word};
 use bcl_phase::{Always, Any, Kit, Lead, Own, superstep};
 use bcl_words::NoMemory;
 use std::alloc::AllocError;
@@ -61,7 +61,10 @@ fn a_phase_turns_into_the_next_and_ends(rt: HostRuntime) -> Result<(), Fail> {
     };
     let (passes, found) = adds(&lead, passes)?;
     assert!(rt; found == [Ok(5), Ok(5), Ok(5), Ok(5)]);
-    let Ok((lead, passes)) = lead.turn::<Any, Own, TallyPass<Any>, TallyPass<Own>>(rt.alloc(), passes) else {
+    let Ok((lead, passes)) = lead.turn::<Any, Own, TallyPass<Any>, TallyPass<Own>>(
+        rt.alloc(),
+        passes,
+    ) else {
         return Err(NoMemory.into());
     };
     let (passes, was) = swaps(&lead, passes)?;
@@ -101,5 +104,25 @@ fn two_ranks_add_side_by_side(rt: HostRuntime) -> Result<(), Fail> {
     superstep(&rt, &mut kits, &Always);
     assert_eq!(rt; kits[1].rank(), 1);
     assert_eq!(rt; kits[1].pass.layout().per_rank, 1);
+    Ok(())
+}
+
+#[test]
+fn the_numbers_of_two_ranks_are_read_together(rt: HostRuntime) -> Result<(), Fail> {
+    let mut home = open(rt.alloc(), 2)?;
+    clear(&mut home, 0, 3);
+    clear(&mut home, 1, 4);
+    assert!(rt; read_both(&mut home, 0, 1) == (3, 4));
+    assert!(rt; read_both(&mut home, 1, 1) == (4, 4));
+    Ok(())
+}
+
+#[test]
+fn a_word_is_as_it_was_once_it_was_tried(rt: HostRuntime) -> Result<(), Fail> {
+    let mut home = open(rt.alloc(), 2)?;
+    clear(&mut home, 1, 4);
+    let (mut home, found) = try_word(home, 1, 9);
+    assert_eq!(rt; found, 9);
+    assert!(rt; read_both(&mut home, 0, 1) == (0, 4));
     Ok(())
 }

@@ -12,7 +12,7 @@ split-pass-requires-clause-rule g c = let h = c.requires.home in let I = c.loop-
     let out : (view_of c.loop-rank.seat).passes ≡ c.loop-rank.rank = λ i. (I.view i).passes in
     let rank : (view_of c.loop-rank.seat).rank ≡ c.args.layout.ranks = (λ i. (I.view i).rank) ∙ (h.0.3 ∙ ap (λ (z : Layout). z.ranks) (sym h.1)) in
     splits _ _ _ _ _ g.R.Phased.rest (key_of c.args.segments.now) g.R.TableRule.holds g.met.R.Phased.from g.met.R.Phased.back (number_of c.loop-rank.seat) (view_of c.loop-rank.seat)
-    (I.seat.1 ∙ h.0.1) (omega arith) ((λ i. (I.view i).back) ∙ c.requires.begins.1) (g.R.Phased.admits (key_of c.args.segments.now))
+    (I.seat.1 ∙ h.0.1) (omega arith) ((λ i. (I.view i).back) ∙ c.requires.begins.1) ((λ i. (I.view i).words) ∙ c.requires.begins.3) ((λ i. (I.view i).loose) ∙ c.requires.begins.4) (g.R.Phased.admits (key_of c.args.segments.now))
 
 pub loop-rank-preserved : goal.loop-rank-preserved
 loop-rank-preserved g c = let h = c.requires.home in let I = c.loop-rank.invariant in let split = c.split-pass.ensures in

@@ -13,3 +13,6 @@ invariant_of-result g c = let e = c.in_ok-segments.ensures in let view = e.view 
   shape = sym e.layout;
   front = sym e.heads;
 }
+
+pub invariant_of-result-2 : goal.invariant_of-result-2
+invariant_of-result-2 g c = let view = c.in_ok-segments.ensures.view ∙ g.met.R.Phased.opens c.args.about.now in record { alone = λ i. (view i).passes; whole = λ i. (view i).loose }

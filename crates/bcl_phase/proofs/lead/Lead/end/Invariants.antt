@@ -1,4 +1,4 @@
-use Rattle.std.proofs.Common.{◌≡◌, ℕ, ◌++◌, length}
+use Rattle.std.proofs.Common.{◌≡◌, ℕ, ◌++◌, length, false}
 use mathlib.Core.Option.{some}
 use lib.ListN.{get_elem?}
 use Rattle.bcl_segment.specs.Parts.{id_of, view_of}
@@ -11,9 +11,10 @@ abbrev pub invariant-loop-pass : goal.invariant-loop-pass
 invariant-loop-pass g l = record {
   seat : IsHomeSeat l.segments l.seat;
   out : (view_of l.seat).passes ≡ length l.passes.items;
+  whole : (view_of l.seat).loose ≡ false;
   phase : ((view_of l.seat).start ≡ (view_of l.initial.seat).start) × ((view_of l.seat).promise ≡ (view_of l.initial.seat).promise);
   taken : over l.initial.passes.items (λ p. told (pass_view (g.W.Wraps.inner p))) ≡ over l.passes.items (λ p. told (pass_view (g.W.Wraps.inner p))) ++ (view_of l.seat).back;
-  left : (i : ℕ) (p : _) → get_elem? l.passes.items i ≡ some p → (pass_table (g.W.Wraps.inner p) ≡ id_of l.segments) × ((pass_view (g.W.Wraps.inner p)).rank ≡ i) × ((pass_view (g.W.Wraps.inner p)).note ≡ g.R.Phased.rest);
+  left : (i : ℕ) (p : _) → get_elem? l.passes.items i ≡ some p → (pass_table (g.W.Wraps.inner p) ≡ id_of l.segments) × ((pass_view (g.W.Wraps.inner p)).rank ≡ i) × g.R.Phased.idle (pass_view (g.W.Wraps.inner p)).note;
 }
 
 abbrev pub decreases-loop-pass : goal.decreases-loop-pass

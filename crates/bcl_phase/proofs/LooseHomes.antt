@@ -1,0 +1,129 @@
+-- A home that no pass is out of may let its words be loose: a step then owes nothing, until the words are shown to fit again.
+use Rattle.std.proofs.Common.{◌≡◌, ℕ, List, [], slice_index, slice_set, set, refl, sym, ap, ◌∙◌, subst, arith, Some, Bool, true, false}
+use Rattle.std.proofs.lemmas.Bool.{false≢true}
+use mathlib.Core.Option as plain
+use lib.ListN.{get_elem?}
+use lib.Seq.{set-get_or}
+use Rattle.atomic_table.specs.Table.{State}
+use Rattle.bcl_event.specs.declared.event.Event.{Event}
+use Rattle.bcl_event.specs.History.{state_after}
+use Rattle.bcl_segment.specs.Steps as segment
+use Rattle.bcl_phase.specs.declared.view.View.{View}
+use Rattle.bcl_phase.specs.Views.{Tick, get, put, loosened, loose_after, mended}
+use Rattle.bcl_phase.specs.Rule.{Kept}
+use Rattle.bcl_phase.proofs.Keeps.{same_some}
+use Rattle.bcl_phase.proofs.Homes.{alone, none_out, knows_all, no_notes}
+
+module _ {C A X K T : Type 0} (ranks : K → ℕ) (start : K → T) (next : K → T → C → A × T) (permits : K → ℕ → ℕ → C → Type 0) (fits : K → ℕ → List ℕ → T → List X → Type 0) (rest : X) (k : K) where
+  abbrev V : Type 0
+  V = View C A X K
+
+  abbrev E : Type 0
+  E = Event C A
+
+  abbrev S : Type 0
+  S = State (Unit {0}) V
+
+  abbrev Rule : S → Type 0
+  Rule = Kept ranks start next permits fits k
+
+  -- the words fit what a home has seen
+  abbrev Fit : V → List ℕ → Type 0
+  Fit v ws = fits k v.promise ws (state_after (next k) (start k) v.seen) []
+
+  -- a home after a step, whose words are loose, or fit
+  abbrev eased_view : V → List ℕ → Bool → ℕ → ℕ → ℕ → V
+  eased_view v ws loose gets puts atomics = record v { words = Some ws; loose = loose; gets = gets; puts = puts; atomics = atomics }
+
+  module _ (s : S) (v : V) (no_pass : v.passes ≡ 0) (r : Rule s) (at : get_elem? s.views 0 ≡ plain.some v) where
+    home : v ≡ r.home
+    home = alone ranks start next permits fits rest k s v no_pass r at
+
+    none : r.home.passes ≡ 0
+    none = none_out ranks start next permits fits rest k s v no_pass r at
+
+    all_seen : r.history ≡ v.seen
+    all_seen = knows_all ranks start next permits fits rest k s v no_pass r at
+
+    fit_now : v.loose ≡ false → Fit v s.words
+    fit_now whole = subst (λ (z : ℕ × List E × List X). fits k z.0 s.words (state_after (next k) (start k) z.1) z.2)
+        (λ z. (ap (λ (y : V). y.promise) (sym home) z, all_seen z, no_notes ranks start next permits fits rest k s v no_pass r at z)) (r.container (ap (λ (y : V). y.loose) (sym home) ∙ whole))
+
+    words_are : (ws : List ℕ) → v.words ≡ Some ws → s.words ≡ ws
+    words_are ws is = (r.known ws (ap (λ (y : V). y.words) (sym home) ∙ is)).0
+
+    eased : (i n : ℕ) (loose : Bool) (gets puts atomics : ℕ) → (loose ≡ false → Fit v (slice_set s.words i n))
+        → Rule (segment.stepped s i n 0 (eased_view v (slice_set s.words i n) loose gets puts atomics))
+    eased i n loose gets puts atomics fit = let after : List ℕ = slice_set s.words i n in let no : r.home.passes ≡ 0 = none in record {
+      home = eased_view r.home after loose gets puts atomics;
+      others = r.others;
+      history = r.history;
+      late = r.late;
+      notes = [];
+      views = λ z. set (r.views z) 0 (eased_view (home z) after loose gets puts atomics);
+      is_home = r.is_home;
+      legal = r.legal;
+      named = r.named;
+      since = r.since;
+      permitted = r.permitted;
+      seen = r.seen;
+      begun = r.begun;
+      own = r.own;
+      gone = r.gone;
+      returned = r.returned;
+      live = λ q u is lives. let below = (r.live q u is lives).0.1 in absurd (omega arith);
+      apart = r.apart;
+      few = r.few;
+      known = λ ws is. (same_some after ws is, no);
+      counted = sym no;
+      alone = λ _. no;
+      container = λ is. subst (λ (z : ℕ × List E). fits k z.0 after (state_after (next k) (start k) z.1) []) (λ z. (ap (λ (y : V). y.promise) home z, sym all_seen z)) (fit is);
+    }
+
+  module _ (holds : K → S → Type 0) (from : (l : K) (s : S) → holds l s → Kept ranks start next permits fits l s) (back : (l : K) (s : S) → Kept ranks start next permits fits l s → holds l s) where
+    -- what a home is told as its words become loose
+    abbrev Loosened : V → V → Type 0
+    Loosened v w = (ws : List ℕ) × (w ≡ loosened ws v) × ((vs : List ℕ) → v.words ≡ Some vs → ws ≡ vs) × ((l : K) → v.key ≡ Some l → fits l v.promise ws (state_after (next l) (start l) v.seen) [])
+
+    pub loosens : (seat : ℕ) (v : V) (i : ℕ) → seat ≡ 0 → v.passes ≡ 0 → v.loose ≡ false → v.key ≡ Some k → segment.Steps (holds k) seat v i (λ n. n) (λ _ w. Loosened v w)
+    loosens seat v i zero_is no_pass whole key = subst (λ (z : ℕ). segment.Steps (holds k) z v i (λ n. n) (λ _ w. Loosened v w)) (sym zero_is)
+        (λ s kept at small. let r : Rule s = from k s kept in let n : ℕ = slice_index s.words i in let after : List ℕ = slice_set s.words i n in (
+          loosened after v,
+          back k (segment.stepped s i n 0 (loosened after v)) (eased s v no_pass r at i n true v.gets v.puts v.atomics (λ is. absurd (false≢true (sym is)))),
+          (
+            after,
+            refl,
+            λ vs is. set-get_or s.words i 0 ∙ words_are s v no_pass r at vs is,
+            λ l is. subst (λ (z : K × List ℕ). fits z.0 v.promise z.1 (state_after (next z.0) (start z.0) v.seen) []) (λ z. (same_some k l (sym key ∙ is) z, sym (set-get_or s.words i 0) z)) (fit_now s v no_pass r at whole),
+          ),
+        ))
+
+    -- a step of a home whose words are loose
+    loose_steps : (seat : ℕ) (tick : Tick) (v : V) (i : ℕ) (f : ℕ → ℕ) (ws : List ℕ) → seat ≡ 0 → v.passes ≡ 0 → v.words ≡ Some ws
+        → segment.Steps (holds k) seat v i f (λ n w. (w ≡ loose_after tick (slice_set ws i (f (slice_index ws i))) v) × (n ≡ slice_index ws i))
+    loose_steps seat tick v i f ws zero_is no_pass known = subst (λ (z : ℕ). segment.Steps (holds k) z v i f (λ n w. (w ≡ loose_after tick (slice_set ws i (f (slice_index ws i))) v) × (n ≡ slice_index ws i))) (sym zero_is)
+        (λ s kept at small. let r : Rule s = from k s kept in let n : ℕ = f (slice_index s.words i) in let same : s.words ≡ ws = words_are s v no_pass r at ws known in
+        let w : V = loose_after tick (slice_set s.words i n) v in (
+          w,
+          back k (segment.stepped s i n 0 w) (eased s v no_pass r at i n true w.gets w.puts w.atomics (λ is. absurd (false≢true (sym is)))),
+          ((λ z. loose_after tick (slice_set (same z) i (f (slice_index (same z) i))) v), λ z. slice_index (same z) i),
+        ))
+
+    pub loose_gets : (seat : ℕ) (v : V) (i : ℕ) (ws : List ℕ) → seat ≡ 0 → v.passes ≡ 0 → v.words ≡ Some ws
+        → segment.Steps (holds k) seat v i (λ n. n) (λ n w. (w ≡ loose_after get ws v) × (n ≡ slice_index ws i))
+    loose_gets seat v i ws zero_is no_pass known s kept at small = let m = loose_steps seat get v i (λ n. n) ws zero_is no_pass known s kept at small in
+        (m.0, m.1, (m.2.0 ∙ (λ z. loose_after get (set-get_or ws i 0 z) v), m.2.1))
+
+    pub loose_puts : (seat : ℕ) (v : V) (i n : ℕ) (ws : List ℕ) → seat ≡ 0 → v.passes ≡ 0 → v.words ≡ Some ws
+        → segment.Steps (holds k) seat v i (λ _. n) (λ _ w. w ≡ loose_after put (slice_set ws i n) v)
+    loose_puts seat v i n ws zero_is no_pass known s kept at small = let m = loose_steps seat put v i (λ _. n) ws zero_is no_pass known s kept at small in (m.0, m.1, m.2.0)
+
+    -- the words fit again
+    pub mends : (seat : ℕ) (v : V) (i : ℕ) (ws : List ℕ) → seat ≡ 0 → v.passes ≡ 0 → v.words ≡ Some ws → Fit v ws → segment.Steps (holds k) seat v i (λ n. n) (λ _ w. w ≡ mended ws v)
+    mends seat v i ws zero_is no_pass known fit = subst (λ (z : ℕ). segment.Steps (holds k) z v i (λ n. n) (λ _ w. w ≡ mended ws v)) (sym zero_is)
+        (λ s kept at small. let r : Rule s = from k s kept in let n : ℕ = slice_index s.words i in
+        let same : slice_set s.words i n ≡ ws = set-get_or s.words i 0 ∙ words_are s v no_pass r at ws known in (
+          mended (slice_set s.words i n) v,
+          back k (segment.stepped s i n 0 (mended (slice_set s.words i n) v)) (eased s v no_pass r at i n false v.gets v.puts v.atomics (λ _. subst (Fit v) (sym same) fit)),
+          (λ z. mended (same z) v),
+        ))
