@@ -1,13 +1,11 @@
 -- A call of one step, on an item of one word.
-use Rattle.std.proofs.Common.{◌≡◌, ◌≢◌, ℕ, ◌+◌, ◌*◌, ◌/◌, ◌%◌, ◌^◌, ◌<◌, List, [], ◌∷◌, drop, replicate, length, slice_index, slice_set, refl, sym, ap, ◌∙◌, subst, ⊎_elim, arith}
-use Rattle.std.specs.Prelude.{Bool, true, ◌&&◌, ◌⊎◌, nat_lt, min}
-use Rattle.std.proofs.lemmas.Bool.{and_parts}
+use Rattle.std.proofs.Common.{◌≡◌, ℕ, ◌+◌, ◌*◌, ◌/◌, ◌%◌, ◌^◌, ◌<◌, List, [], ◌∷◌, slice_index, slice_set, refl, sym, ap, ◌∙◌, subst, ⊎_elim, arith}
+use Rattle.std.specs.Prelude.{Bool, true, min}
 use Rattle.std.proofs.lemmas.List.Elements.{All-nil, All-cons}
-use mathlib.Core.Option as plain
 use lib.ListN.{get_elem?}
 use lib.Seq.{set-get_or}
 use Rattle.atomic_table.proofs.Lists.{set_again}
-use Rattle.bcl_words.specs.Words.{IsWords, is_words}
+use Rattle.bcl_words.specs.Words.{IsWords}
 use Rattle.bcl_words.specs.Numbers.{one_word, is_below}
 use Rattle.bcl_words.specs.NumberLaws.{one_shape, one_passes}
 use Rattle.bcl_event.specs.declared.array.ArrayCall.{ArrayCall}
@@ -54,7 +52,7 @@ module _ (shape : Shape) (promise rank place : ℕ) (any : promise ≡ anything)
 
     replaced : (n : ℕ) → n < 2 ^ 64 → Fits 1 is_number shape promise (slice_set ws (place * 1 + 0) n) (slice_set items place (one_word n)) xs
     replaced n small = changed 1 is_number shape promise ws items xs fit xs place 0 n (one_word n) within (omega arith) (one_passes (2 ^ 64) n small (omega arith)) (λ i apart. refl)
-        (subst (λ (m : ℕ) . (k : ℕ) → k < m → slice_index (slice_set ws (place * 1 + 0) n) (place * 1 + k) ≡ slice_index (one_word n) k) (sym all_put)
+        (subst (λ (m : ℕ). (k : ℕ) → k < m → slice_index (slice_set ws (place * 1 + 0) n) (place * 1 + k) ≡ slice_index (one_word n) k) (sym all_put)
         (lies_put ws (place * 1) (one_word n) 0 (subst (λ (m : ℕ). place * 1 + 0 < m) (sym fit.count) (spot_within 1 (size shape) place 0 within (omega arith))) (λ k less. absurd (omega arith))))
         (λ r z e. still items (slice_set items place (one_word n)) r z (fit.flies r z e))
 

@@ -1,28 +1,20 @@
 -- What stays of how the words of an array fit, as one word and one note change.
-use Rattle.std.proofs.Common.{◌≡◌, ◌≢◌, ℕ, zero, suc, ◌+◌, ◌*◌, ◌/◌, ◌<◌, ◌≤◌, List, [], ◌∷◌, length, slice_index, slice_set, refl, sym, ap, ◌∙◌, subst, ⊎_elim, inl, inr, arith, length-set, get_or-set_same, get_or-set_other}
+use Rattle.std.proofs.Common.{◌≡◌, ◌≢◌, ℕ, zero, suc, ◌+◌, ◌*◌, ◌/◌, ◌<◌, ◌≤◌, List, [], ◌∷◌, slice_set, refl, sym, ap, ◌∙◌, subst, ⊎_elim, inl, inr, arith, length-set, get_or-set_same, get_or-set_other}
 use Rattle.std.specs.Prelude.{Bool, true, false, ◌==◌, ◌⊎◌, if◌then◌else◌}
-use Rattle.std.proofs.lemmas.List.Elements.{All-nil, All-cons}
 use Rattle.std.proofs.Math.Nat.{eq-or-lt_of_le, mul-le-mul_right}
 use Rattle.std.proofs.lemmas.Bool.{false≢true, cases_lt}
 use Rattle.std.proofs.lemmas.Bool.Decides.{Decides-eqb}
 use mathlib.Core.Option as plain
 use lib.ListN.{get_elem?}
-use lib.Seq.{set-get_or}
 use Rattle.atomic_table.proofs.Lists.{at_set}
-use Rattle.bcl_event.specs.declared.array.ArrayCall.{ArrayCall}
-use Rattle.bcl_event.specs.declared.array.ArrayCall.TheVariants.{Read, Write}
-use Rattle.bcl_event.specs.declared.array.ArrayReply.TheVariants.{Done}
 use Rattle.bcl_event.specs.Array.{item_at}
-use Rattle.bcl_event.specs.Promises.{Permits, array_permits}
-use Rattle.bcl_phase.specs.Rule.{Moves}
 use Rattle.bcl_phase.specs.Flights.{Lies}
-use Rattle.bcl_phase.proofs.Flights.{lies_put, lies_apart}
+use Rattle.bcl_phase.proofs.Flights.{lies_apart}
 use Rattle.bcl_darray.specs.declared.array.Shape.{Shape}
 use Rattle.bcl_darray.specs.declared.array.Note.{Note}
 use Rattle.bcl_darray.specs.declared.array.Note.TheVariants.{Rest, Getting, Putting}
-use Rattle.bcl_darray.specs.Array.{size, next, permits}
-use Rattle.bcl_darray.specs.Fits.{owning, reading, anything, put_by, IsFixed, Flies, Fits}
-use Rattle.bcl_darray.specs.Calls.{flight, HasGot, IsSame, Gets, Reads, putting, Makes, Puts}
+use Rattle.bcl_darray.specs.Array.{size}
+use Rattle.bcl_darray.specs.Fits.{put_by, Flies, Fits}
 
 -- ---- notes
 

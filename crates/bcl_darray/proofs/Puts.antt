@@ -1,6 +1,6 @@
 -- A write of an item of the rank's own: a put of each of its words.
 use Rattle.std.proofs.Common.{◌≡◌, ◌≢◌, ℕ, zero, suc, ◌+◌, ◌*◌, ◌/◌, ◌<◌, ◌≤◌, List, [], ◌∷◌, length, slice_index, slice_set, refl, sym, ap, ◌∙◌, subst, ⊎_elim, arith, get_or-set_same, get_or-set_other}
-use Rattle.std.specs.Prelude.{Bool, true, false, ◌==◌, ◌⊎◌, if◌then◌else◌}
+use Rattle.std.specs.Prelude.{Bool, true, false, ◌==◌, if◌then◌else◌}
 use Rattle.std.proofs.lemmas.Bool.{false≢true}
 use Rattle.std.proofs.lemmas.Bool.Decides.{Decides-eqb}
 use Rattle.std.proofs.lemmas.List.Elements.{All-nil, All-cons}
@@ -19,7 +19,7 @@ use Rattle.bcl_darray.specs.declared.array.Shape.{Shape}
 use Rattle.bcl_darray.specs.declared.array.Note.{Note}
 use Rattle.bcl_darray.specs.declared.array.Note.TheVariants.{Rest, Getting, Putting}
 use Rattle.bcl_darray.specs.Array.{size, next, permits}
-use Rattle.bcl_darray.specs.Fits.{owning, reading, put_by, IsFixed, Flies, Fits}
+use Rattle.bcl_darray.specs.Fits.{owning, reading, put_by, Flies, Fits}
 use Rattle.bcl_darray.specs.Calls.{flight, putting, Makes, Puts, PutsWord}
 use Rattle.bcl_darray.proofs.Frames.{put_again, changed}
 

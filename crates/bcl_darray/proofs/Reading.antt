@@ -1,10 +1,9 @@
 -- The words of an item, as a read gets them.
-use Rattle.std.proofs.Common.{◌≡◌, ◌≢◌, ℕ, zero, suc, ◌+◌, ◌*◌, ◌-◌, ◌^◌, ◌<◌, ◌≤◌, List, [], ◌∷◌, drop, replicate, length, slice_index, slice_set, refl, sym, ap, ◌∙◌, subst, ⊎_elim, arith, length-set, get_or-set_same, get_or-set_other}
+use Rattle.std.proofs.Common.{◌≡◌, ℕ, zero, suc, ◌+◌, ◌*◌, ◌-◌, ◌<◌, ◌≤◌, List, [], ◌∷◌, length, slice_index, slice_set, refl, sym, ap, ◌∙◌, subst, ⊎_elim, arith, length-set, get_or-set_other}
 use Rattle.std.specs.Prelude.{Bool, true}
 use Rattle.std.proofs.lemmas.Bool.{cases_lt}
 use Rattle.std.proofs.lemmas.List.{get_or-replicate, get_or-drop}
 use Rattle.std.proofs.lemmas.Grind.{same_number_lists}
-use Rattle.std.proofs.Math.Nat.{eq-or-lt_of_le}
 use Rattle.bcl_words.specs.Words.{IsWords}
 use Rattle.bcl_segment.specs.declared.layout.GlobalPtr.{GlobalPtr}
 use Rattle.bcl_segment.specs.declared.layout.Layout.{Layout}
@@ -20,7 +19,7 @@ use Rattle.bcl_darray.specs.declared.array.Note.{Note}
 use Rattle.bcl_darray.specs.declared.array.Note.TheVariants.{Rest, Getting, Putting}
 use Rattle.bcl_darray.specs.Array.{size, next, permits, IsShaped}
 use Rattle.bcl_darray.specs.Fits.{IsFixed, Fits}
-use Rattle.bcl_darray.specs.Calls.{flight, HasGot, IsSame, Gets, Reads, GetsWord, IsItemAt}
+use Rattle.bcl_darray.specs.Calls.{HasGot, IsSame, Gets, Reads, GetsWord, IsItemAt}
 use Rattle.bcl_darray.proofs.Gets.{gets_word, got_all}
 
 abbrev AllZeros : List ℕ → Type 0

@@ -1,6 +1,6 @@
 -- The array under phases: its sequential object, and what its promises permit.
 -- Each rank has so many items, its own block: the item at an index is of the rank index / per_rank.
-use Rattle.std.specs.Prelude.{◌≡◌, ℕ, ◌*◌, ◌/◌, ◌<◌, ◌≤◌, ◌^◌, List, replicate, Some}
+use Rattle.std.specs.Prelude.{◌≡◌, ℕ, ◌*◌, ◌≤◌, ◌^◌, List, replicate}
 use Rattle.bcl_segment.specs.declared.layout.Layout.{Layout}
 use Rattle.bcl_segment.specs.Places.{places}
 use Rattle.bcl_event.specs.declared.array.ArrayCall.{ArrayCall}

@@ -4,7 +4,6 @@ use Rattle.std.specs.Prelude.{◌≡◌, ℕ, ◌*◌, ◌/◌, ◌<◌, ◌⊎�
 use mathlib.Core.Option as plain
 use lib.ListN.{get_elem?}
 use Rattle.bcl_event.specs.Array.{item_at}
-use Rattle.bcl_phase.specs.declared.flight.Flight.{Flight}
 use Rattle.bcl_phase.specs.Flights.{Lies}
 use Rattle.bcl_darray.specs.declared.array.Shape.{Shape}
 use Rattle.bcl_darray.specs.declared.array.Note.{Note}

@@ -1,6 +1,5 @@
 -- What a contract sees of an array's home, of its lead and of its passes, and when a pass is of a lead.
-use Rattle.std.specs.Prelude.{◌≡◌, ℕ, List}
-use Rattle.atomic_table.specs.Seated.{TableId}
+use Rattle.std.specs.Prelude.{◌≡◌}
 use Rattle.bcl_segment.specs.declared.layout.Layout.{Layout}
 use Rattle.bcl_phase.specs.declared.view.View.{View}
 use Rattle.bcl_phase.specs.Parts as phase

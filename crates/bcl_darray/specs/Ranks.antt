@@ -2,7 +2,7 @@
 -- These are the laws that the rule of all containers asks of the array.
 use Rattle.std.specs.Prelude.{◌≡◌, ℕ, zero, suc, ◌<◌, List, [], ◌∷◌, ◌++◌, Bool, length}
 use Rattle.std.proofs.Common.{sym, refl, subst}
-use mathlib.Core.Option.{some, none, some-injective, some-ne-none}
+use mathlib.Core.Option.{some, some-injective, some-ne-none}
 use lib.ListN.{get_elem?}
 use Rattle.bcl_event.specs.Array.{item_at}
 use Rattle.bcl_phase.specs.Flights.{Lies}
@@ -30,6 +30,10 @@ shorter [] r x e = absurd (some-ne-none x (sym e))
 shorter (y ∷ xs) zero x e = e
 shorter (y ∷ xs) (suc r) x e = shorter xs r x e
 
+-- the one note of no call in flight
+abbrev pub IsRest : Note → Type 0
+IsRest x = x ≡ Rest
+
 module _ (width : ℕ) (passes : List ℕ → Bool) (shape : Shape) where
   pub admitted : (p : ℕ) (ws : List ℕ) (items : List (List ℕ)) (xs : List Note) → length xs < ranks shape → Fits width passes shape p ws items xs → Fits width passes shape p ws items (xs ++ Rest ∷ [])
   admitted p ws items xs room fit = record {
@@ -40,8 +44,8 @@ module _ (width : ℕ) (passes : List ℕ → Bool) (shape : Shape) where
     flies = longer width shape p items xs (λ r. r) fit.flies;
   }
 
-  pub released : (p : ℕ) (ws : List ℕ) (items : List (List ℕ)) (xs : List Note) → Fits width passes shape p ws items (xs ++ Rest ∷ []) → Fits width passes shape p ws items xs
-  released p ws items xs fit = record {
+  pub released : (p : ℕ) (ws : List ℕ) (items : List (List ℕ)) (xs : List Note) (y : Note) → IsRest y → Fits width passes shape p ws items (xs ++ y ∷ []) → Fits width passes shape p ws items xs
+  released p ws items xs y rest fitted = let fit = subst (λ (z : Note). Fits width passes shape p ws items (xs ++ z ∷ [])) rest fitted in record {
     count = fit.count;
     all = fit.all;
     whole = fit.whole;

@@ -42,8 +42,7 @@ pub struct Array<T> {
 }
 
 impl<T: Object> TableRule<(), View<ArrayCall<Words>, ArrayReply<Words>, Note, Shape>, Shape>
-    for Array<T>
-{
+    for Array<T> {
     ghost use Rattle.bcl_darray.specs.declared.array.Note.TheVariants.{Rest};
 
     ghost holds = { Kept ranks start next permits (Fits T.WORDS T.passes) };
@@ -59,7 +58,7 @@ impl<T: Object> Rule for Array<T> {
 
 impl<T: Object> Phased for Array<T> {
     ghost use Rattle.std.specs.Prelude.{refl};
-    ghost use Rattle.bcl_darray.specs.Ranks.{admitted, released, begun_again};
+    ghost use Rattle.bcl_darray.specs.Ranks.{IsRest, admitted, released, begun_again};
     ghost use Rattle.bcl_darray.specs.declared.array.Note.TheVariants.{Rest};
 
     type Call = ArrayCall<Words>;
@@ -79,6 +78,10 @@ impl<T: Object> Phased for Array<T> {
     ghost permits = { permits };
 
     ghost rest = { Rest };
+
+    ghost idle = { IsRest };
+
+    ghost rests = { refl };
 
     ghost fits = { Fits T.WORDS T.passes };
 
@@ -114,8 +117,7 @@ impl<T: Object> Grants<Own> for Array<T> {}
 impl<T: Object> Grants<Read> for Array<T> {}
 
 /// The array's calls are proved under this promise, so that a phase may run under it.
-pub trait ArrayGrants<P: Promise>:
-    Grants<P>
+pub trait ArrayGrants<P: Promise>: Grants<P>
     + Items
     + Phased<
         Call = ArrayCall<Words>,
@@ -123,28 +125,27 @@ pub trait ArrayGrants<P: Promise>:
         State = LinkedList<Words>,
         Note = Note,
         Key = Shape,
-    >
-{
+    > {
     ghost use Rattle.std.specs.Prelude.{◌≡◌};
     ghost use Rattle.bcl_darray.specs.declared.array.Note.TheVariants.{Rest};
 
-    ghost rests: { Self.Phased.rest ≡ Rest };
+    ghost at_rest: { Self.Phased.rest ≡ Rest };
 }
 
 impl ArrayGrants<Any> for Array<u64> {
     ghost use Rattle.std.specs.Prelude.{refl};
 
-    ghost rests = { refl };
+    ghost at_rest = { refl };
 }
 
 impl<T: Object> ArrayGrants<Own> for Array<T> {
     ghost use Rattle.std.specs.Prelude.{refl};
 
-    ghost rests = { refl };
+    ghost at_rest = { refl };
 }
 
 impl<T: Object> ArrayGrants<Read> for Array<T> {
     ghost use Rattle.std.specs.Prelude.{refl};
 
-    ghost rests = { refl };
+    ghost at_rest = { refl };
 }

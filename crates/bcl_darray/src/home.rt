@@ -35,12 +35,7 @@ impl<T: Object> ArrayHome<T> {
     /// makes no step.
     ///
     /// Condition: an item fits; there are 1 to 64 ranks, at least one item a rank, and at most 2^27 words.
-    pub fn new(
-        alloc: Global,
-        ranks: u32,
-        per_rank: u32,
-        fill: T,
-    ) -> Result<ArrayHome<T>, NoMemory>
+    pub fn new(alloc: Global, ranks: u32, per_rank: u32, fill: T) -> Result<ArrayHome<T>, NoMemory>
         requires fits { Fits T.WORDS }
         requires ranks { (1 ≤ ranks) × (ranks ≤ 64) }
         requires items { 1 ≤ per_rank }

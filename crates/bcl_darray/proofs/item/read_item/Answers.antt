@@ -1,4 +1,4 @@
-use Rattle.std.proofs.Common.{◌≡◌, ℕ, ◌+◌, ◌-◌, ◌*◌, ◌<◌, ◌≤◌, ◌^◌, List, [], ◌∷◌, true, false, slice_index, slice_set, length, length-set, refl, sym, ap, ◌∙◌, subst, arith}
+use Rattle.std.proofs.Common.{◌≡◌, ℕ, ◌-◌, List, [], ◌∷◌, length-set, refl, sym, ap, ◌∙◌, subst, arith}
 use Rattle.std.proofs.lemmas.Bool.{false≢true}
 use Rattle.bcl_event.specs.History.{event}
 use Rattle.bcl_event.specs.declared.array.ArrayCall.TheVariants.{Read}
@@ -10,7 +10,7 @@ use Rattle.bcl_darray.specs.Array.{ranks, start, next, permits}
 use Rattle.bcl_darray.specs.Fits.{IsFixed}
 use Rattle.bcl_darray.specs.Calls.{HasGot, Stands}
 use Rattle.bcl_darray.proofs.Gets.{got_more, got_all}
-use Rattle.bcl_darray.proofs.Reading.{no_words, word_is, spot_is, gets_at, got_next, zeros_next, last_word}
+use Rattle.bcl_darray.proofs.Reading.{no_words, word_is, gets_at, got_next, zeros_next, last_word}
 use Rattle.bcl_darray.proofs.item.read_item.Goals as goal
 
 pub loop-j-init : goal.loop-j-init

@@ -1,5 +1,5 @@
-use Rattle.std.proofs.Common.{◌≡◌, ℕ, ◌+◌, ◌≤◌, [], length, slice_index}
-use Rattle.bcl_phase.specs.Parts.{lead_key, pass_view, IsOf}
+use Rattle.std.proofs.Common.{◌≡◌, ℕ, ◌+◌, ◌≤◌, length, slice_index}
+use Rattle.bcl_phase.specs.Parts.{pass_view, IsOf}
 use Rattle.bcl_phase.specs.Stands.{Still}
 use Rattle.bcl_darray.specs.Calls.{HasGot, GetsWord}
 use Rattle.bcl_darray.proofs.item.read_item.Given as goal

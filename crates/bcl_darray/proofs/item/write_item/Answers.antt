@@ -1,4 +1,4 @@
-use Rattle.std.proofs.Common.{◌≡◌, ℕ, ◌+◌, ◌*◌, ◌<◌, List, slice_index, refl, sym, ap, ◌∙◌, subst, arith}
+use Rattle.std.proofs.Common.{ℕ, ◌<◌, List, slice_index, refl, ap, ◌∙◌, arith}
 use Rattle.bcl_event.specs.declared.array.ArrayCall.TheVariants.{Write}
 use Rattle.bcl_event.specs.declared.array.ArrayReply.TheVariants.{Done}
 use Rattle.bcl_phase.specs.Views.{put}

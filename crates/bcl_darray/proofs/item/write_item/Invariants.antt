@@ -1,5 +1,5 @@
-use Rattle.std.proofs.Common.{◌≡◌, ℕ, ◌+◌}
-use Rattle.bcl_phase.specs.Parts.{lead_key, pass_view, IsOf}
+use Rattle.std.proofs.Common.{◌≡◌, ◌+◌}
+use Rattle.bcl_phase.specs.Parts.{pass_view, IsOf}
 use Rattle.bcl_phase.specs.Stands.{Still}
 use Rattle.bcl_darray.specs.Calls.{putting, PutsWord}
 use Rattle.bcl_darray.proofs.item.write_item.Given as goal

@@ -1,4 +1,4 @@
-use Rattle.std.proofs.Common.{◌≡◌, ◌+◌, ℕ, [], ◌∷◌, length, length-append, ap, ◌∙◌, arith}
+use Rattle.std.proofs.Common.{◌≡◌, ◌+◌, [], ◌∷◌, length, length-append, ap, ◌∙◌, arith}
 use Rattle.bcl_phase.proofs.Returns.{placed, last_placed, rest_placed}
 use Rattle.bcl_darray.specs.Parts.{pass_view, IsOf}
 use Rattle.bcl_darray.proofs.tutorial.passes_of.Goals as goal

@@ -1,4 +1,4 @@
-use Rattle.std.proofs.Common.{◌≡◌, ◌<◌, ◌+◌, ℕ, length, sym, ap, ◌∙◌, subst, arith}
+use Rattle.std.proofs.Common.{◌≡◌, ◌<◌, sym, ap, ◌∙◌, subst, arith}
 use Rattle.bcl_phase.proofs.Returns.{placed, last_placed, rest_placed}
 use Rattle.bcl_phase.proofs.Zips.{zip_long, zip_at, all_at}
 use Rattle.bcl_darray.specs.declared.tutorial.Voter.{Voter}
@@ -12,9 +12,11 @@ superstep_all-requires-clause-ready g c κs = let four : size (lead_key c.in-Ok.
     (subst (λ lead. IsOf k.pass lead) (sym it.0) it.1, subst (λ lead. k.candidate < size (lead_key lead)) (sym it.0) (let low = it.2 in omega arith)))
 
 pub passes_of-requires : goal.passes_of-requires
-passes_of-requires g c = record { kits = λ i k at. let was = zip_at _ c.in_ok-kits.kits.items _ c.superstep_all.ensures.steps i k at in let it = c.in_ok-kits.ensures.kits i was.0 was.1 in
-    let same = zip_long _ c.in_ok-kits.kits.items _ c.superstep_all.ensures.steps in let all = c.in_ok-kits.ensures.all in let rank = was.2.2 in let turn = it.3 in
-    (subst (λ lead. IsOf k.pass lead) it.0 was.2.1, omega arith) }
+passes_of-requires g c = record {
+  kits = λ i k at. let was = zip_at _ c.in_ok-kits.kits.items _ c.superstep_all.ensures.steps i k at in let it = c.in_ok-kits.ensures.kits i was.0 was.1 in
+      let same = zip_long _ c.in_ok-kits.kits.items _ c.superstep_all.ensures.steps in let all = c.in_ok-kits.ensures.all in let rank = was.2.2 in let turn = it.3 in
+      (subst (λ lead. IsOf k.pass lead) it.0 was.2.1, omega arith);
+}
 
 pub turn-requires-clause-all : goal.turn-requires-clause-all
 turn-requires-clause-all g c κs = c.in_ok-passes.ensures.all ∙ zip_long _ c.in_ok-kits.kits.items _ c.superstep_all.ensures.steps ∙ c.in_ok-kits.ensures.all ∙ c.in-Ok.ensures.count ∙ (λ i. (sym c.in-Ok.ensures.lead.0.2 i).ranks)

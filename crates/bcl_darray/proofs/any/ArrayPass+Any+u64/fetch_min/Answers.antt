@@ -2,7 +2,7 @@ use Rattle.std.proofs.Common.{◌∙◌, sym}
 use Rattle.bcl_event.specs.declared.array.ArrayCall.TheVariants.{FetchMin}
 use Rattle.bcl_event.specs.declared.array.ArrayReply.TheVariants.{Was}
 use Rattle.bcl_phase.specs.Views.{atomic}
-use Rattle.bcl_phase.specs.Parts.{lead_key, pass_view, pass_layout}
+use Rattle.bcl_phase.specs.Parts.{lead_key, pass_view}
 use Rattle.bcl_phase.proofs.Calls.{stands_one}
 use Rattle.bcl_darray.specs.Array.{ranks, start, next, permits}
 use Rattle.bcl_darray.proofs.Atomics.{lessens_at}

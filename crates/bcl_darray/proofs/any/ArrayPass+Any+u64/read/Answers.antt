@@ -3,7 +3,7 @@ use Rattle.bcl_words.specs.Numbers.{one_word}
 use Rattle.bcl_event.specs.declared.array.ArrayCall.TheVariants.{Read}
 use Rattle.bcl_event.specs.declared.array.ArrayReply.TheVariants.{Value}
 use Rattle.bcl_phase.specs.Views.{get}
-use Rattle.bcl_phase.specs.Parts.{lead_key, pass_view, pass_layout}
+use Rattle.bcl_phase.specs.Parts.{lead_key, pass_view}
 use Rattle.bcl_phase.proofs.Calls.{stands_one}
 use Rattle.bcl_darray.specs.Array.{ranks, start, next, permits}
 use Rattle.bcl_darray.proofs.Atomics.{loads_at}

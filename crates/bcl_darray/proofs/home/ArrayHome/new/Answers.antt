@@ -1,4 +1,4 @@
-use Rattle.std.proofs.Common.{◌≡◌, ℕ, List, ◌*◌, ◌∙◌, length, take, ap}
+use Rattle.std.proofs.Common.{◌≡◌, ℕ, ◌*◌, ◌∙◌, length, take, ap}
 use Rattle.std.specs.List.{repeat, each_same}
 use Rattle.bcl_darray.proofs.Fills.{filled, whole_words}
 use Rattle.bcl_darray.proofs.home.ArrayHome.new.Goals as goal
