@@ -178,3 +178,49 @@ fn all_ranks_find_after_a_turn_what_each_inserted(rt: HostRuntime) -> Result<(),
     lead.end::<Any>(passes);
     Ok(())
 }
+
+// The calls of one rank on a filter of one block, and what they answer.
+fn calls(pass: &mut FilterPass<Any, u64>, lead: &FilterLead<u64>) -> [bool; 5]
+    requires of { IsOf pass.old lead.now }
+    ensures of { IsOf pass.new lead.now }
+    ensures rank { (pass_view pass.new).rank ≡ (pass_view pass.old).rank }
+{
+    let first = pass.insert(lead, &1);
+    let other = pass.find(lead, &3);
+    let again = pass.insert(lead, &1);
+    let found = pass.find(lead, &1);
+    let second = pass.insert(lead, &3);
+    [first, other, again, found, second]
+}
+
+// The last rank makes these calls.
+fn last_calls(
+    lead: &FilterLead<u64>,
+    passes: &mut Vec<FilterPass<Any, u64>>,
+) -> Result<[bool; 5], Fail>
+    requires of { (i : ℕ) (p : _) → get_elem? passes.old.items i ≡ some p → IsOf p lead.now × ((pass_view p).rank ≡ i) }
+    ensures of { IfOk result (λ _. (i : ℕ) (p : _) → get_elem? passes.new.items i ≡ some p → IsOf p lead.now × ((pass_view p).rank ≡ i)) }
+    ensures all { IfOk result (λ _. length passes.new.items ≡ length passes.old.items) }
+{
+    let Some(mut pass) = last_pass(lead, passes) else {
+        return Err(Fail::new("no pass"));
+    };
+    let answers = calls(&mut pass, lead);
+    passes.push(pass)?;
+    Ok(answers)
+}
+
+#[test]
+fn a_filter_of_one_block_answers(rt: HostRuntime) -> Result<(), Fail> {
+    let home = FilterHome::<u64>::new(rt.alloc(), 1, 1)?;
+    let Ok((lead, mut passes)) = home.begin::<Any>(rt.alloc()) else {
+        return Err(Fail::new("no memory"));
+    };
+    assert_eq!(rt; last_calls(&lead, &mut passes)?, [false, false, true, true, false]);
+    let Ok((lead, mut passes)) = lead.turn::<Any, Any>(rt.alloc(), passes) else {
+        return Err(Fail::new("no memory"));
+    };
+    assert_eq!(rt; last_calls(&lead, &mut passes)?, [true, true, true, true, true]);
+    lead.end::<Any>(passes);
+    Ok(())
+}

@@ -43,6 +43,39 @@ fn last_calls(
     Ok(answers)
 }
 
+// What a rank reads of four numbers.
+fn numbers(pass: &mut ArrayPass<Read, u64>, lead: &ArrayLead<u64>) -> [u64; 4]
+    requires four { 4 ≤ size (lead_key lead.now) }
+    requires of { IsOf pass.old lead.now }
+    ensures of { IsOf pass.new lead.now }
+    ensures rank { (pass_view pass.new).rank ≡ (pass_view pass.old).rank }
+{
+    [
+        pass.read(lead, 0),
+        pass.read(lead, 1),
+        pass.read(lead, 2),
+        pass.read(lead, 3),
+    ]
+}
+
+// What the last rank reads of them.
+fn last_numbers(
+    lead: &ArrayLead<u64>,
+    passes: &mut Vec<ArrayPass<Read, u64>>,
+) -> Result<[u64; 4], Fail>
+    requires four { 4 ≤ size (lead_key lead.now) }
+    requires of { (i : ℕ) (p : _) → get_elem? passes.old.items i ≡ some p → IsOf p lead.now × ((pass_view p).rank ≡ i) }
+    ensures of { IfOk result (λ _. (i : ℕ) (p : _) → get_elem? passes.new.items i ≡ some p → IsOf p lead.now × ((pass_view p).rank ≡ i)) }
+    ensures all { IfOk result (λ _. length passes.new.items ≡ length passes.old.items) }
+{
+    let Some(mut pass) = passes.pop() else {
+        return Err(Fail::new("no pass"));
+    };
+    let found = numbers(&mut pass, lead);
+    passes.push(pass)?;
+    Ok(found)
+}
+
 #[test]
 fn numbers_are_added_to_lessened_written_and_read(rt: HostRuntime) -> Result<(), Fail> {
     let home = ArrayHome::<u64>::new(rt.alloc(), 2, 2, 5)?;
@@ -50,7 +83,11 @@ fn numbers_are_added_to_lessened_written_and_read(rt: HostRuntime) -> Result<(),
         return Err(Fail::new("no memory"));
     };
     assert_eq!(rt; last_calls(&lead, &mut passes)?, [5, 7, 4, 9, 5]);
-    lead.end::<Any>(passes);
+    let Ok((lead, mut passes)) = lead.turn::<Any, Read>(rt.alloc(), passes) else {
+        return Err(Fail::new("no memory"));
+    };
+    assert_eq!(rt; last_numbers(&lead, &mut passes)?, [9, 5, 5, 4]);
+    lead.end::<Read>(passes);
     Ok(())
 }
 
