@@ -216,11 +216,17 @@ fn a_filter_of_one_block_answers(rt: HostRuntime) -> Result<(), Fail> {
     let Ok((lead, mut passes)) = home.begin::<Any>(rt.alloc()) else {
         return Err(Fail::new("no memory"));
     };
-    assert_eq!(rt; last_calls(&lead, &mut passes)?, [false, false, true, true, false]);
+    assert_eq!(rt;
+        last_calls(&lead, &mut passes)?,
+        [false, false, true, true, false]
+    );
     let Ok((lead, mut passes)) = lead.turn::<Any, Any>(rt.alloc(), passes) else {
         return Err(Fail::new("no memory"));
     };
-    assert_eq!(rt; last_calls(&lead, &mut passes)?, [true, true, true, true, true]);
+    assert_eq!(rt;
+        last_calls(&lead, &mut passes)?,
+        [true, true, true, true, true]
+    );
     lead.end::<Any>(passes);
     Ok(())
 }

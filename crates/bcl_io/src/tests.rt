@@ -60,7 +60,11 @@ fn the_limit_is_the_last_length_read(rt: HostRuntime) -> Result<(), Fail> {
     let alloc = rt.alloc();
     for (limit, outcome) in [(9, Err(ReadFault::TooLarge)), (10, Ok(10)), (11, Ok(10))] {
         let mut src = MemSource::new(vec![in alloc; 1; 10]?, 3, Vec::new(alloc));
-        assert_eq!(rt; length_read(alloc, &mut src, limit)?, outcome, "limit {limit}");
+        assert_eq!(rt;
+            length_read(alloc, &mut src, limit)?,
+            outcome,
+            "limit {limit}"
+        );
     }
     Ok(())
 }
