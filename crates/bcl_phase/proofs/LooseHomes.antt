@@ -1,6 +1,9 @@
--- A home that no pass is out of may let its words be loose: a step then owes nothing, until the words are shown to fit again.
-use Rattle.std.proofs.Common.{◌≡◌, ℕ, List, [], slice_index, slice_set, set, refl, sym, ap, ◌∙◌, subst, arith, Some, Bool, true, false}
+-- A home that no pass is out of may learn its words, and forget them.
+-- It may let them be loose, too: a step then owes nothing, until the words are shown to fit again.
+use Rattle.std.proofs.Common.{◌≡◌, ℕ, List, [], slice_index, slice_set, set, refl, sym, ap, ◌∙◌, subst, arith, Some, None, Bool, true, false}
+use Rattle.std.specs.Prelude.{Option}
 use Rattle.std.proofs.lemmas.Bool.{false≢true}
+use Rattle.std.proofs.lemmas.Option.{none-some}
 use mathlib.Core.Option as plain
 use lib.ListN.{get_elem?}
 use lib.Seq.{set-get_or}
@@ -9,7 +12,7 @@ use Rattle.bcl_event.specs.declared.event.Event.{Event}
 use Rattle.bcl_event.specs.History.{state_after}
 use Rattle.bcl_segment.specs.Steps as segment
 use Rattle.bcl_phase.specs.declared.view.View.{View}
-use Rattle.bcl_phase.specs.Views.{Tick, get, put, loosened, loose_after, mended}
+use Rattle.bcl_phase.specs.Views.{Tick, get, put, knowing, words_of, loosened, loose_after, mended}
 use Rattle.bcl_phase.specs.Rule.{Kept}
 use Rattle.bcl_phase.proofs.Keeps.{same_some}
 use Rattle.bcl_phase.proofs.Homes.{alone, none_out, knows_all, no_notes}
@@ -31,9 +34,9 @@ module _ {C A X K T : Type 0} (ranks : K → ℕ) (start : K → T) (next : K �
   abbrev Fit : V → List ℕ → Type 0
   Fit v ws = fits k v.promise ws (state_after (next k) (start k) v.seen) []
 
-  -- a home after a step, whose words are loose, or fit
-  abbrev eased_view : V → List ℕ → Bool → ℕ → ℕ → ℕ → V
-  eased_view v ws loose gets puts atomics = record v { words = Some ws; loose = loose; gets = gets; puts = puts; atomics = atomics }
+  -- a home after a step, which knows these words or none, and whose words are loose, or fit
+  abbrev eased_view : V → Option (List ℕ) → Bool → ℕ → ℕ → ℕ → V
+  eased_view v words loose gets puts atomics = record v { words = words; loose = loose; gets = gets; puts = puts; atomics = atomics }
 
   module _ (s : S) (v : V) (no_pass : v.passes ≡ 0) (r : Rule s) (at : get_elem? s.views 0 ≡ plain.some v) where
     home : v ≡ r.home
@@ -52,15 +55,15 @@ module _ {C A X K T : Type 0} (ranks : K → ℕ) (start : K → T) (next : K �
     words_are : (ws : List ℕ) → v.words ≡ Some ws → s.words ≡ ws
     words_are ws is = (r.known ws (ap (λ (y : V). y.words) (sym home) ∙ is)).0
 
-    eased : (i n : ℕ) (loose : Bool) (gets puts atomics : ℕ) → (loose ≡ false → Fit v (slice_set s.words i n))
-        → Rule (segment.stepped s i n 0 (eased_view v (slice_set s.words i n) loose gets puts atomics))
-    eased i n loose gets puts atomics fit = let after : List ℕ = slice_set s.words i n in let no : r.home.passes ≡ 0 = none in record {
-      home = eased_view r.home after loose gets puts atomics;
+    eased : (i n : ℕ) (words : Option (List ℕ)) (loose : Bool) (gets puts atomics : ℕ) → ((ws : List ℕ) → words ≡ Some ws → slice_set s.words i n ≡ ws) → (loose ≡ false → Fit v (slice_set s.words i n))
+        → Rule (segment.stepped s i n 0 (eased_view v words loose gets puts atomics))
+    eased i n words loose gets puts atomics known fit = let after : List ℕ = slice_set s.words i n in let no : r.home.passes ≡ 0 = none in record {
+      home = eased_view r.home words loose gets puts atomics;
       others = r.others;
       history = r.history;
       late = r.late;
       notes = [];
-      views = λ z. set (r.views z) 0 (eased_view (home z) after loose gets puts atomics);
+      views = λ z. set (r.views z) 0 (eased_view (home z) words loose gets puts atomics);
       is_home = r.is_home;
       legal = r.legal;
       named = r.named;
@@ -74,13 +77,52 @@ module _ {C A X K T : Type 0} (ranks : K → ℕ) (start : K → T) (next : K �
       live = λ q u is lives. let below = (r.live q u is lives).0.1 in absurd (omega arith);
       apart = r.apart;
       few = r.few;
-      known = λ ws is. (same_some after ws is, no);
+      known = λ ws is. (known ws is, no);
       counted = sym no;
       alone = λ _. no;
       container = λ is. subst (λ (z : ℕ × List E). fits k z.0 after (state_after (next k) (start k) z.1) []) (λ z. (ap (λ (y : V). y.promise) home z, sym all_seen z)) (fit is);
     }
 
   module _ (holds : K → S → Type 0) (from : (l : K) (s : S) → holds l s → Kept ranks start next permits fits l s) (back : (l : K) (s : S) → Kept ranks start next permits fits l s → holds l s) where
+    -- what a home is told as it learns its words
+    abbrev Learned : V → V → Type 0
+    Learned v w = (ws : List ℕ) × (w ≡ knowing (Some ws) v) × ((vs : List ℕ) → v.words ≡ Some vs → ws ≡ vs) × ((l : K) → v.key ≡ Some l → fits l v.promise ws (state_after (next l) (start l) v.seen) [])
+
+    pub learns : (seat : ℕ) (v : V) (i : ℕ) → seat ≡ 0 → v.passes ≡ 0 → v.loose ≡ false → v.key ≡ Some k → segment.Steps (holds k) seat v i (λ n. n) (λ _ w. Learned v w)
+    learns seat v i zero_is no_pass whole key = subst (λ (z : ℕ). segment.Steps (holds k) z v i (λ n. n) (λ _ w. Learned v w)) (sym zero_is)
+        (λ s kept at small. let r : Rule s = from k s kept in let n : ℕ = slice_index s.words i in let after : List ℕ = slice_set s.words i n in
+        let same : after ≡ s.words = set-get_or s.words i 0 in let fit : Fit v after = subst (Fit v) (sym same) (fit_now s v no_pass r at whole) in (
+          knowing (Some after) v,
+          back k (segment.stepped s i n 0 (knowing (Some after) v)) (subst (λ (b : Bool). Rule (segment.stepped s i n 0 (eased_view v (Some after) b v.gets v.puts v.atomics))) (sym whole) (eased s v no_pass r at i n (Some after) false v.gets v.puts v.atomics (same_some after) (λ _. fit))),
+          (
+            after,
+            refl,
+            λ vs is. same ∙ words_are s v no_pass r at vs is,
+            λ l is. subst (λ (z : K). fits z v.promise after (state_after (next z) (start z) v.seen) []) (same_some k l (sym key ∙ is)) fit,
+          ),
+        ))
+
+    -- a look at a word that is known
+    pub looks : (seat : ℕ) (v : V) (i : ℕ) → seat ≡ 0 → v.passes ≡ 0 → v.loose ≡ false → v.words ≡ Some (words_of v) → segment.Steps (holds k) seat v i (λ n. n) (λ n w. (w ≡ v) × (n ≡ slice_index (words_of v) i))
+    looks seat v i zero_is no_pass whole known = subst (λ (z : ℕ). segment.Steps (holds k) z v i (λ n. n) (λ n w. (w ≡ v) × (n ≡ slice_index (words_of v) i))) (sym zero_is)
+        (λ s kept at small. let r : Rule s = from k s kept in let n : ℕ = slice_index s.words i in
+        let same : slice_set s.words i n ≡ s.words = set-get_or s.words i 0 in let are : s.words ≡ words_of v = words_are s v no_pass r at (words_of v) known in (
+          v,
+          back k (segment.stepped s i n 0 v) (subst (λ (z : Option (List ℕ) × Bool). Rule (segment.stepped s i n 0 (eased_view v z.0 z.1 v.gets v.puts v.atomics))) (λ z. (sym known z, sym whole z))
+              (eased s v no_pass r at i n (Some (words_of v)) false v.gets v.puts v.atomics (λ ws is. same ∙ (are ∙ same_some (words_of v) ws is)) (λ _. subst (Fit v) (sym same) (fit_now s v no_pass r at whole)))),
+          (refl, ap (λ (ws : List ℕ). slice_index ws i) are),
+        ))
+
+    pub forgets : (seat : ℕ) (v : V) (i : ℕ) → seat ≡ 0 → v.passes ≡ 0 → v.loose ≡ false → segment.Steps (holds k) seat v i (λ n. n) (λ _ w. w ≡ knowing None v)
+    forgets seat v i zero_is no_pass whole = subst (λ (z : ℕ). segment.Steps (holds k) z v i (λ n. n) (λ _ w. w ≡ knowing None v)) (sym zero_is)
+        (λ s kept at small. let r : Rule s = from k s kept in let n : ℕ = slice_index s.words i in
+        let same : slice_set s.words i n ≡ s.words = set-get_or s.words i 0 in (
+          knowing None v,
+          back k (segment.stepped s i n 0 (knowing None v)) (subst (λ (b : Bool). Rule (segment.stepped s i n 0 (eased_view v None b v.gets v.puts v.atomics))) (sym whole)
+              (eased s v no_pass r at i n None false v.gets v.puts v.atomics (λ ws is. absurd (none-some ws is)) (λ _. subst (Fit v) (sym same) (fit_now s v no_pass r at whole)))),
+          refl,
+        ))
+
     -- what a home is told as its words become loose
     abbrev Loosened : V → V → Type 0
     Loosened v w = (ws : List ℕ) × (w ≡ loosened ws v) × ((vs : List ℕ) → v.words ≡ Some vs → ws ≡ vs) × ((l : K) → v.key ≡ Some l → fits l v.promise ws (state_after (next l) (start l) v.seen) [])
@@ -89,7 +131,7 @@ module _ {C A X K T : Type 0} (ranks : K → ℕ) (start : K → T) (next : K �
     loosens seat v i zero_is no_pass whole key = subst (λ (z : ℕ). segment.Steps (holds k) z v i (λ n. n) (λ _ w. Loosened v w)) (sym zero_is)
         (λ s kept at small. let r : Rule s = from k s kept in let n : ℕ = slice_index s.words i in let after : List ℕ = slice_set s.words i n in (
           loosened after v,
-          back k (segment.stepped s i n 0 (loosened after v)) (eased s v no_pass r at i n true v.gets v.puts v.atomics (λ is. absurd (false≢true (sym is)))),
+          back k (segment.stepped s i n 0 (loosened after v)) (eased s v no_pass r at i n (Some after) true v.gets v.puts v.atomics (same_some after) (λ is. absurd (false≢true (sym is)))),
           (
             after,
             refl,
@@ -105,7 +147,7 @@ module _ {C A X K T : Type 0} (ranks : K → ℕ) (start : K → T) (next : K �
         (λ s kept at small. let r : Rule s = from k s kept in let n : ℕ = f (slice_index s.words i) in let same : s.words ≡ ws = words_are s v no_pass r at ws known in
         let w : V = loose_after tick (slice_set s.words i n) v in (
           w,
-          back k (segment.stepped s i n 0 w) (eased s v no_pass r at i n true w.gets w.puts w.atomics (λ is. absurd (false≢true (sym is)))),
+          back k (segment.stepped s i n 0 w) (eased s v no_pass r at i n (Some (slice_set s.words i n)) true w.gets w.puts w.atomics (same_some (slice_set s.words i n)) (λ is. absurd (false≢true (sym is)))),
           ((λ z. loose_after tick (slice_set (same z) i (f (slice_index (same z) i))) v), λ z. slice_index (same z) i),
         ))
 
@@ -124,6 +166,6 @@ module _ {C A X K T : Type 0} (ranks : K → ℕ) (start : K → T) (next : K �
         (λ s kept at small. let r : Rule s = from k s kept in let n : ℕ = slice_index s.words i in
         let same : slice_set s.words i n ≡ ws = set-get_or s.words i 0 ∙ words_are s v no_pass r at ws known in (
           mended (slice_set s.words i n) v,
-          back k (segment.stepped s i n 0 (mended (slice_set s.words i n) v)) (eased s v no_pass r at i n false v.gets v.puts v.atomics (λ _. subst (Fit v) (sym same) fit)),
+          back k (segment.stepped s i n 0 (mended (slice_set s.words i n) v)) (eased s v no_pass r at i n (Some (slice_set s.words i n)) false v.gets v.puts v.atomics (same_some (slice_set s.words i n)) (λ _. subst (Fit v) (sym same) fit)),
           (λ z. mended (same z) v),
         ))

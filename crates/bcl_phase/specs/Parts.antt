@@ -1,4 +1,4 @@
--- What a contract sees of a home, of one whose words are loose, of a lead and of a pass.
+-- What a contract sees of a home, of one whose words are loose, of one that is closed, of a lead and of a pass.
 -- Each has a view, and the segments that it is of are known by the id of their table, their key and their layout.
 use Rattle.std.specs.Prelude.{◌≡◌, ℕ, List, Some}
 use Rattle.atomic_table.specs.Seated.{TableId}
@@ -8,6 +8,7 @@ use Rattle.bcl_segment.specs.Parts as segment
 use Rattle.bcl_segment.specs.Resting.{resting_view}
 use Rattle.bcl_phase.specs.declared.view.View.{View}
 use Rattle.bcl_phase.specs.declared.home.Home.{Home}
+use Rattle.bcl_phase.specs.declared.known.Closed.{Closed}
 use Rattle.bcl_phase.specs.declared.loose.Loose.{Loose}
 use Rattle.bcl_phase.specs.declared.lead.Lead.{Lead}
 use Rattle.bcl_phase.specs.declared.pass.Pass.{Pass}
@@ -15,6 +16,10 @@ use Rattle.bcl_phase.specs.Views.{words_of}
 
 abbrev pub home_view : {R C A T X K : Type 0} {g : _} → Home R C A T X K g → View C A X K
 home_view home = segment.view_of home.owned.seat
+
+-- the words that it knows
+abbrev pub home_words : {R C A T X K : Type 0} {g : _} → Home R C A T X K g → List ℕ
+home_words home = words_of (home_view home)
 
 -- which segments they are
 abbrev pub home_id : {R C A T X K : Type 0} {g : _} → Home R C A T X K g → TableId
@@ -35,6 +40,10 @@ home_word home spot = segment.word_of home.owned.segments spot
 
 abbrev pub HomeHasSpot : {R C A T X K : Type 0} {g : _} → Home R C A T X K g → Spot → Type 0
 HomeHasSpot home spot = segment.HasSpot home.owned.segments spot
+
+-- what the home knew
+abbrev pub closed_view : {R C A T X K : Type 0} → Closed R C A T X K → View C A X K
+closed_view closed = resting_view closed.home
 
 -- the same of a home whose words are loose
 abbrev pub loose_view : {R C A T X K : Type 0} {g : _} → Loose R C A T X K g → View C A X K

@@ -80,6 +80,10 @@ module _ {C A X K : Type 0} where
   abbrev pub words_of : View C A X K → List ℕ
   words_of v = known_words v.words
 
+  -- a home that knows these words, or none
+  abbrev pub knowing : Option (List ℕ) → View C A X K → View C A X K
+  knowing words v = record v { words = words }
+
   -- a home whose words are loose from then on, and which knows them
   abbrev pub loosened : List ℕ → View C A X K → View C A X K
   loosened words v = record v { words = Some words; loose = true }

@@ -1,6 +1,6 @@
 //! How a phase ends.
 
-ghost use Rattle.std.specs.Prelude.{◌≡◌, ℕ, length, IfOk, IfErr};
+ghost use Rattle.std.specs.Prelude.{◌≡◌, ℕ, length, None, IfOk, IfErr};
 ghost use mathlib.Core.Option.{some};
 ghost use lib.ListN.{get_elem?};
 ghost use Rattle.bcl_phase.specs.Phases.{begun, Returned, Ended};
@@ -27,6 +27,7 @@ impl<R: Phased> Lead<R> {
         ensures ended { Ended R.ranks R.start R.next R.permits (lead_key self) (lead_view self).promise (lead_view self).start (home_view result).seen }
         ensures passes { (i : ℕ) (p : _) → get_elem? passes.items i ≡ some p → Returned (lead_view self).start (home_view result).seen i (pass_view (W.inner p)) }
         ensures home { IsLeadOf self result }
+        ensures words { (home_view result).words ≡ None }
     {
         let Lead {
             segments,

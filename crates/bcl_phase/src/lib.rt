@@ -24,8 +24,8 @@
 //! - `home`, `lead`, `pass`: the three who hold seats. `specs/Parts.antt` says what a contract sees of them. `wraps`: a
 //!   container's own pass, over that of the phase.
 //! - `begin`, `end`, `turn`: how a phase begins and ends, by `specs/Phases.antt`.
-//! - `learns`, `steps`: the steps of a pass, and what each tells, by `specs/Told.antt`. `alone`: the steps of a home, and
-//!   `loose`: those of one whose words need not fit.
+//! - `learns`, `steps`: the steps of a pass, and what each tells, by `specs/Told.antt`. `alone`: the steps of a home.
+//!   `known`: how a home knows its words, and closes. `loose`: a home whose words need not fit.
 //! - `specs/Stands.antt`: what the contract of every container's call cites.
 //! - `flight`: a call in flight on an object of several words, and `specs/Flights.antt` where such words stand.
 //! - `kit`, `gate`: supersteps.
@@ -41,6 +41,7 @@ mod flight;
 mod gate;
 mod home;
 mod kit;
+mod known;
 mod lead;
 mod learns;
 mod loose;
@@ -62,6 +63,7 @@ pub use flight::Flight;
 pub use gate::{Always, Gate};
 pub use home::Home;
 pub use kit::{Kit, superstep, superstep_all};
+pub use known::Closed;
 pub use lead::Lead;
 pub use learns::Learns;
 pub use loose::Loose;

@@ -1,8 +1,8 @@
 //! What each kind of step tells, in the words of the segments.
 
-ghost use Rattle.std.specs.Prelude.{◌≡◌, ℕ, List, [], Some, slice_index, slice_set};
+ghost use Rattle.std.specs.Prelude.{◌≡◌, ℕ, List, [], Some, None, slice_index, slice_set};
 ghost use Rattle.bcl_event.specs.History.{state_after};
-ghost use Rattle.bcl_phase.specs.Views.{get as a_get, put as a_put, atomic as an_atomic, begins, cuts, cut, takes, spent, words_of, loosened, loose_after, mended};
+ghost use Rattle.bcl_phase.specs.Views.{get as a_get, put as a_put, atomic as an_atomic, begins, cuts, cut, takes, spent, words_of, knowing, loosened, loose_after, mended};
 ghost use Rattle.bcl_phase.specs.Told.{Took, Told, Ends, HomeTold};
 
 use crate::{Learns, Phased, Promise};
@@ -53,6 +53,33 @@ pub(crate) struct HomePuts<R, M> {
 
 impl<R: Phased, M: Learns<R::State, R::Call, R::Note>> Tells<R::View> for HomePuts<R, M> {
     ghost then = { λ i word _ v n w. (k : R.Key) → v.key ≡ Some k → HomeTold R.start R.next R.fits k a_put v i (λ _. word) (λ m t did. M.then m t did R.rest) n w };
+}
+
+/// A home learns its words.
+pub(crate) struct Knows<R> {
+    of: PhantomData<R>,
+}
+
+impl<R: Phased> Tells<R::View> for Knows<R> {
+    ghost then = { λ _ _ _ v _ w. (ws : List ℕ) × (w ≡ knowing (Some ws) v) × ((vs : List ℕ) → v.words ≡ Some vs → ws ≡ vs) × ((k : R.Key) → v.key ≡ Some k → R.fits k v.promise ws (state_after (R.next k) (R.start k) v.seen) []) };
+}
+
+/// A home looks at a word that it knows.
+pub(crate) struct Looks<R> {
+    of: PhantomData<R>,
+}
+
+impl<R: Phased> Tells<R::View> for Looks<R> {
+    ghost then = { λ i _ _ v n w. (w ≡ v) × (n ≡ slice_index (words_of v) i) };
+}
+
+/// A home forgets its words.
+pub(crate) struct Forgets<R> {
+    of: PhantomData<R>,
+}
+
+impl<R: Phased> Tells<R::View> for Forgets<R> {
+    ghost then = { λ _ _ _ v _ w. w ≡ knowing None v };
 }
 
 /// A home lets its words be loose.

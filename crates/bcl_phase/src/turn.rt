@@ -1,6 +1,6 @@
 //! How one phase turns into the next.
 
-ghost use Rattle.std.specs.Prelude.{◌≡◌, ℕ, length, IfOk, IfErr};
+ghost use Rattle.std.specs.Prelude.{◌≡◌, ℕ, length, None, IfOk, IfErr};
 ghost use mathlib.Core.Option.{some};
 ghost use lib.ListN.{get_elem?};
 ghost use Rattle.bcl_phase.specs.Phases.{begun, Returned, Ended};
@@ -36,6 +36,7 @@ impl<R: Phased> Lead<R> {
         ensures refused { IfErr result (λ e. Ended R.ranks R.start R.next R.permits (lead_key self) (lead_view self).promise (lead_view self).start (home_view e.home).seen) }
         ensures refused_passes { IfErr result (λ e. (i : ℕ) (p : _) → get_elem? passes.items i ≡ some p → Returned (lead_view self).start (home_view e.home).seen i (pass_view (W.inner p))) }
         ensures refused_home { IfErr result (λ e. IsLeadOf self e.home) }
+        ensures refused_words { IfErr result (λ e. (home_view e.home).words ≡ None) }
     {
         self.end::<P, W>(passes).begin::<Q, X>(alloc)
     }

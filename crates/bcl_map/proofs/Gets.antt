@@ -1,0 +1,131 @@
+-- A get of a control word on a path.
+use Rattle.std.proofs.Common.{◌≡◌, ◌≢◌, ℕ, suc, ◌+◌, ◌*◌, ◌/◌, ◌%◌, ◌<◌, ◌≤◌, List, [], length, set, get_or, slice_index, slice_set, refl, sym, ap, ◌∙◌, subst, ⊎_elim, arith, Some, None, mod-lt, lt_of_not-le, Option}
+use Rattle.std.proofs.lemmas.List.Elements.{All-nil}
+use Rattle.std.specs.List.{All}
+use native.Mathlib.Decide.{ℕ_discrete, dec_le}
+use mathlib.Core.Logic.{dite}
+use mathlib.Core.Option.{some, some-ne-none, some-injective}
+use lib.ListN.{get_elem?}
+use lib.Seq.{set-get_or}
+use Rattle.bcl_map.specs.declared.shape.Shape.{Shape}
+use Rattle.bcl_event.specs.History.{state_by}
+use Rattle.bcl_event.specs.declared.map.MapCall.{MapCall}
+use Rattle.bcl_event.specs.Map.{Pairs, value_at}
+use Rattle.bcl_map.specs.Map.{places, Words, Lawful, home, path, next, permits, tag}
+use Rattle.bcl_map.specs.Cells.{Cell, free, kept, busy, key_of, used, Bars, control}
+use Rattle.bcl_map.specs.declared.note.Lock.{Lock}
+use Rattle.bcl_map.specs.declared.note.Lock.TheVariants.{Shown as shown, Reserved as reserved, Held as held}
+use Rattle.bcl_map.specs.declared.note.Before.{Before}
+use Rattle.bcl_map.specs.Notes.{Claim, passed, grips, Note, Has, reads_all, readers, Says, AllSay}
+use Rattle.bcl_map.specs.Fits.{PlaceOk, Fits, fits}
+use Rattle.bcl_map.specs.Steps.{with_claims, control_at, walking, at_free, at_alike, SeesControl, GetsControl}
+use Rattle.bcl_map.proofs.Counts.{bars_key, bars_not, in_use}
+use Rattle.bcl_map.proofs.Frames.{SameAt, renotes}
+
+pub value_none : (o : Option Words) → ((v : Words) → o ≢ Some v) → o ≡ None
+value_none None h = refl
+value_none (Some v) h = absurd (h v refl)
+
+-- the fields of a control word
+tag_of : (s h r : ℕ) → s < 256 → h < 256 → (s + h * 256 + r * 65536) / 256 % 256 ≡ h
+tag_of s h r ls lh = omega arith
+
+tag_alone : (s h : ℕ) → s < 256 → h < 256 → (s + h * 256) / 256 % 256 ≡ h
+tag_alone s h ls lh = omega arith
+
+module _ (L : Shape) (law : Lawful L) where
+  pub near : (k : Words) (d : ℕ) → path L k d < places L
+  near k d = mod-lt _ law.some_place
+
+  -- a place in use shows the home of its key
+  pub shows_tag : (n : ℕ) (c : Cell) (o : Words) → key_of c ≡ some o → (control L n c ≢ 0) × (tag (control L n c) ≡ home L o)
+  shows_tag n free o e = absurd (some-ne-none o (sym e))
+  shows_tag n (kept k) o e = let is : k ≡ o = some-injective k o e in let low = law.low k in
+      ((λ z. omega arith), tag_of 2 (home L k) n (omega arith) low ∙ ap (home L) is)
+  shows_tag n (busy shown q k old v m) o e = let is : k ≡ o = some-injective k o e in let low = law.low k in
+      ((λ z. omega arith), tag_alone 2 (home L k) (omega arith) low ∙ ap (home L) is)
+  shows_tag n (busy reserved q k old v m) o e = let is : k ≡ o = some-injective k o e in let low = law.low k in
+      ((λ z. omega arith), tag_alone 1 (home L k) (omega arith) low ∙ ap (home L) is)
+  shows_tag n (busy held q k old v m) o e = let is : k ≡ o = some-injective k o e in let low = law.low k in
+      ((λ z. omega arith), tag_alone 3 (home L k) (omega arith) low ∙ ap (home L) is)
+
+  -- one place more is passed
+  pub passed_more : (p : ℕ) (t : Pairs) (cells : List Cell) (r : ℕ) (k : Words) (d : ℕ) → Says L p t cells r (passed k d) → Bars k (get_or cells (path L k d) free) → Says L p t cells r (passed k (suc d))
+  passed_more p t cells r k d h bars e l = dite (ℕ_discrete e d)
+      (λ (same : e ≡ d). subst (λ (z : ℕ). Bars k (get_or cells (path L k z) free)) (sym same) bars)
+      (λ ne. h e (omega arith))
+
+  module _ (kw vw : ℕ) (p : ℕ) (ws : List ℕ) (t : Pairs) (notes : List Note) (f : Fits kw vw L p ws t notes) where
+    -- a key is absent where its path ends, behind places of other keys
+    pub absent_behind : (k : Words) (d : ℕ) → ((e : ℕ) → e < d → Bars k (get_or f.cells (path L k e) free)) → used (get_or f.cells (path L k d) free) ≡ 0 → value_at k t ≡ None
+    absent_behind k d others hollow = value_none (value_at k t) (λ v e. let pl = f.placed k v e in let inside = in_use (get_or f.cells (path L k pl.d) free) k pl.there in dite (dec_le d pl.d)
+        (λ le. dite (ℕ_discrete d pl.d)
+        (λ same. let zero_there : used (get_or f.cells (path L k pl.d) free) ≡ 0 = subst (λ (z : ℕ). used (get_or f.cells (path L k z) free) ≡ 0) same hollow in omega arith)
+        (λ ne. let one = pl.before d (omega arith) in omega arith))
+        (λ no. bars_not k (get_or f.cells (path L k pl.d) free) (others pl.d (lt_of_not-le no)) pl.there))
+
+    pub absent_at_end : (k : Words) → ((e : ℕ) → e < places L → Bars k (get_or f.cells (path L k e) free)) → value_at k t ≡ None
+    absent_at_end k others = value_none (value_at k t) (λ v e. let pl = f.placed k v e in bars_not k (get_or f.cells (path L k pl.d) free) (others pl.d pl.within) pl.there)
+
+  module _ (kw vw : ℕ) (op : Words → Words → Words) where
+    -- what a get shows: the note after it, and its calls, which leave the state as it is
+    pub gets : (p r : ℕ) (x : Note) (i : ℕ) (tells : ℕ → Pairs → List (MapCall Words Words) → Note → Type 0) (ws : List ℕ) (t : Pairs) (notes : List Note) (f : Fits kw vw L p ws t notes) (y : Note) (did : List (MapCall Words Words))
+        → get_elem? notes r ≡ some x → ((j : ℕ) → SameAt j x y) → AllSay L p t f.cells r y.claims → ((j : ℕ) → reads_all j y.claims ≡ 0) → All (permits L p r) did → state_by (next op L) t did ≡ t → tells (slice_index ws i) t did y
+        → (did' : List (MapCall Words Words)) × (y' : Note) × All (permits L p r) did' × fits kw vw L p (slice_set ws i (slice_index ws i)) (state_by (next op L) t did') (set notes r y') × tells (slice_index ws i) t did' y'
+    gets p r x i tells ws t notes f y did is same says none_read may still told = (
+      did,
+      y,
+      may,
+      subst (λ (z : List ℕ × Pairs). Fits kw vw L p z.0 z.1 (set notes r y)) (λ j. (sym (set-get_or ws i 0) j, sym still j)) (renotes kw vw L p ws t notes f r x y is same says (λ j. let z = none_read j in omega arith)),
+      told,
+    )
+
+    -- claims of a walk neither read a place nor write one
+    walks_alike : (x : Note) (k : Words) (d b : ℕ) (claims : List Claim) → x.claims ≡ walking kw vw op L k d b → ((j : ℕ) → reads_all j claims ≡ 0) → (j : ℕ) → SameAt j x (with_claims x claims)
+    walks_alike x k d b claims e none_read j = (
+      none_read j ∙ sym (ap (reads_all j) e),
+      λ l a old v n h. no_grip (subst (Has (grips j l a old v n)) e h),
+    )
+      where
+        no_grip : {j : ℕ} {l : Lock} {a : Words} {old : Before} {v : Words} {n : ℕ} → Has (grips j l a old v n) (walking kw vw op L k d b) → Has (grips j l a old v n) claims
+        no_grip h = ⊎_elim (λ z. absurd (cc)) (λ h'. ⊎_elim (λ z. absurd cc) (λ h''. ⊎_elim (λ z. absurd cc) (λ z. absurd z) h'') h') h
+
+    module _ (p r : ℕ) (x : Note) (k : Words) (d b : ℕ) (walks : x.claims ≡ walking kw vw op L k d b) where
+      -- a place that is free, or has a key
+      by_cell : (c : Cell) (F : Type 0) → (c ≡ free → F) → ((o : Words) → key_of c ≡ some o → F) → F
+      by_cell free F none_there one_there = none_there refl
+      by_cell (kept o) F none_there one_there = one_there o refl
+      by_cell (busy l q o old v n) F none_there one_there = one_there o refl
+
+      -- (a) a get of a control word by a walk
+      pub gets_control : GetsControl kw vw op L p r x k d b
+      gets_control _ _ ws t notes is f small =
+          let i : ℕ = path L k d in
+          let n : ℕ = slice_index ws (control_at kw vw op L k d) in
+          let ok : PlaceOk kw vw L p ws t notes i (get_or f.cells i free) = f.each i (near k d) in
+          let knew : AllSay L p t f.cells r (walking kw vw op L k d b) = subst (AllSay L p t f.cells r) walks (f.noted r x is) in
+          by_cell (get_or f.cells i free) _
+          (λ (e : get_or f.cells i free ≡ free).
+          let zero_there : n ≡ 0 = ok.shows ∙ ap (control L (readers i notes)) e in
+          gets p r x (control_at kw vw op L k d) (SeesControl kw vw op L k d b x) ws t notes f (with_claims x (at_free kw vw op L k d b)) [] is
+          (walks_alike x k d b (at_free kw vw op L k d b) walks (λ _. refl))
+          (knew.0, (knew.1.0, ((let more : b ≤ length t = knew.1.1.0 in let none_there : used (get_or f.cells i free) ≡ 0 = ap used e in omega arith), tt)))
+          (λ _. refl) (All-nil (permits L p r)) refl
+          ((λ _. (refl, refl)), (λ no _. absurd (no zero_there)), (λ no _. absurd (no zero_there))))
+          (λ (o : Words) (e : key_of (get_or f.cells i free) ≡ some o).
+          let shown_there = shows_tag (readers i notes) (get_or f.cells i free) o e in
+          let some_there : n ≢ 0 = λ z. shown_there.0 (sym ok.shows ∙ z) in
+          let tag_is : tag n ≡ home L o = ap tag ok.shows ∙ shown_there.1 in
+          dite (ℕ_discrete (home L o) (home L k))
+          (λ (same : home L o ≡ home L k).
+          gets p r x (control_at kw vw op L k d) (SeesControl kw vw op L k d b x) ws t notes f (with_claims x (at_alike kw vw op L k d 0 b)) [] is
+          (walks_alike x k d b (at_alike kw vw op L k d 0 b) walks (λ _. refl))
+          (knew.0, (knew.1.0, (knew.1.1.0, ((o, e, same, (λ g l. absurd (omega arith))), tt))))
+          (λ _. refl) (All-nil (permits L p r)) refl
+          ((λ z. absurd (some_there z)), (λ _ _. (refl, refl)), (λ _ no. absurd (no (tag_is ∙ same)))))
+          (λ (ne : home L o ≢ home L k).
+          gets p r x (control_at kw vw op L k d) (SeesControl kw vw op L k d b x) ws t notes f (with_claims x (walking kw vw op L k (suc d) b)) [] is
+          (walks_alike x k d b (walking kw vw op L k (suc d) b) walks (λ _. refl))
+          (knew.0, (passed_more p t f.cells r k d knew.1.0 (bars_key k o (get_or f.cells i free) e (λ z. ne (ap (home L) z))), (knew.1.1.0, tt)))
+          (λ _. refl) (All-nil (permits L p r)) refl
+          ((λ z. absurd (some_there z)), (λ _ z. absurd (ne (sym tag_is ∙ z))), (λ _ _. (refl, refl)))))

@@ -1,0 +1,14 @@
+pub mod Counts
+pub mod Frames
+pub mod Gets
+pub mod Takes
+pub mod Puts
+pub mod Readers
+pub mod Taken
+pub mod Objects
+pub mod Closes
+pub mod Finds
+pub mod Fills
+pub mod Looks
+pub mod Walks
+pub mod Seated

@@ -1,0 +1,121 @@
+-- The steps of a look at a bucket, as its code takes them.
+use Rattle.std.proofs.Common.{◌≡◌, ℕ, ◌+◌, ◌*◌, ◌^◌, ◌<◌, ◌≤◌, List, [], ◌∷◌, length, slice_index, slice_set, sym, ap, ◌∙◌, subst, ⊎_elim, arith, length-set, get_or-set_other, mod-lt}
+use Rattle.std.specs.Prelude.{Bool}
+use Rattle.std.proofs.lemmas.Bool.{cases_lt}
+use Rattle.std.proofs.lemmas.Grind.{same_number_lists}
+use Rattle.std.proofs.Math.Nat.{div-lt_iff_lt-mul, mul-pos, le-mul_of_pos_right, mul_comm}
+use Rattle.bcl_words.specs.Words.{IsWords}
+use Rattle.bcl_segment.specs.declared.layout.GlobalPtr.{GlobalPtr}
+use Rattle.bcl_segment.specs.declared.layout.Layout.{Layout}
+use Rattle.bcl_segment.specs.declared.layout.Spot.{Spot}
+use Rattle.bcl_segment.specs.declared.layout.Spot.TheVariants.{At}
+use Rattle.bcl_segment.specs.Places.{IsSpot, word_at}
+use Rattle.bcl_event.specs.declared.map.MapCall.{MapCall}
+use Rattle.bcl_event.specs.Map.{Pairs}
+use Rattle.bcl_event.specs.declared.map.MapCall.TheVariants.{Find}
+use Rattle.bcl_event.specs.declared.map.MapReply.TheVariants.{Absent}
+use Rattle.bcl_event.specs.History.{event, state_after}
+use Rattle.bcl_phase.specs.Views.{get, words_of}
+use Rattle.bcl_phase.specs.Told.{Took, Told}
+use Rattle.bcl_phase.specs.Stands.{Still}
+use Rattle.bcl_phase.proofs.Calls.{still_by, still_trans, stands_one, stands_behind}
+use Rattle.bcl_phase.specs.Rule.{Moves}
+use Rattle.bcl_phase.specs.Flights.{Lies}
+use Rattle.bcl_phase.proofs.Flights.{lies_put}
+use Rattle.bcl_map.specs.declared.shape.Shape.{Shape}
+use Rattle.bcl_map.specs.Map.{Words, Lawful, ranks, first_pairs, begins_at, home, path, next, permits, size, IsShaped}
+use Rattle.bcl_map.specs.Notes.{Note}
+use Rattle.bcl_map.specs.Fits.{Holds}
+use Rattle.bcl_map.specs.Finds.{MaySee, Typed, walked, comparing, reading, value_of, Passes, FindsControl, FindsKey, FindsValue}
+use Rattle.bcl_map.specs.Calls.{MapView, Stands, IsBucketAt, IsPassed}
+use Rattle.bcl_map.proofs.Finds.{past, finds_control, finds_key, finds_value, typed_step}
+
+-- ---- where the words of a bucket stand
+
+module _ (kw vw heads : ℕ) (layout : Layout) (L : Shape) (shaped : IsShaped kw vw heads layout L) where
+  pub lawful : Lawful L
+  lawful = record {
+    some_place = room;
+    low = λ k. let under : home L k < L.ranks = (div-lt_iff_lt-mul {k = L.per_rank} {x = begins_at L k} {y = L.ranks} per).1 (mod-lt _ room) in let few = shaped.few_ranks in omega arith;
+  }
+    where
+      per : 0 < L.per_rank
+      per = let h = shaped.some in omega arith
+
+      room : 0 < L.ranks * L.per_rank
+      room = mul-pos (let h = shaped.some_ranks in omega arith) per
+
+  pub small : (at : GlobalPtr) (place : ℕ) → IsBucketAt (size kw vw) layout at place → at.offset + size kw vw ≤ 2 ^ 27
+  small at place bucket = let room = bucket.room in let few = shaped.few in let some : layout.per_rank ≤ layout.ranks * layout.per_rank = subst (λ (n : ℕ). layout.per_rank ≤ n) (mul_comm layout.per_rank layout.ranks) (le-mul_of_pos_right layout.per_rank (let of_rank = bucket.of_rank in omega arith)) in omega arith
+
+  module _ (at : GlobalPtr) (place j : ℕ) (spot : Spot) (bucket : IsBucketAt (size kw vw) layout at place) (is : spot ≡ At (record { rank = at.rank; offset = at.offset + j })) where
+    pub word_is : word_at heads layout spot ≡ size kw vw * place + j
+    word_is = ap (word_at heads layout) is ∙ let none = shaped.none in let first = bucket.first in omega arith
+
+    pub spot_is : j < size kw vw → IsSpot heads layout spot
+    spot_is low = let room = bucket.room in subst (IsSpot heads layout) (sym is) (bucket.of_rank, omega arith)
+
+    -- what a home finds there that knows its words
+    pub found_is : (v v' : MapView) (heads' : ℕ) (layout' : Layout) (n : ℕ) → v' ≡ v → heads' ≡ heads → layout' ≡ layout → n ≡ slice_index (words_of v') (word_at heads' layout' spot) → n ≡ slice_index (words_of v) (size kw vw * place + j)
+    found_is v v' heads' layout' n same same_heads same_layout found = found ∙ ((λ i. slice_index (words_of (same i)) (word_at (same_heads i) (same_layout i) spot)) ∙ ap (slice_index (words_of v)) word_is)
+
+-- ---- a get of a word of the value
+
+module _ (kw vw : ℕ) (key value : List ℕ → Bool) (op : Words → Words → Words) (L : Shape) (law : Lawful L) (p r : ℕ) (k : Words) (d : ℕ) (see : MaySee L p r k) where
+  pub value_step : (j w : ℕ) (x : Note) → kw ≤ 8 → j < vw → x.claims ≡ reading k d (value_of x.claims) → w ≡ size kw vw * path L k d + (1 + (kw + j))
+      → Moves (next op) permits (Holds kw vw key value) L p r x w (λ n. n) (Typed key value (FindsValue kw vw op L k d (value_of x.claims) j x))
+  value_step j w x room low at is = subst (λ (z : ℕ). Moves (next op) permits (Holds kw vw key value) L p r x z (λ n. n) (Typed key value (FindsValue kw vw op L k d (value_of x.claims) j x))) (sym is)
+      (typed_step kw vw key value op L p r x _ (FindsValue kw vw op L k d (value_of x.claims) j x) (λ n t did y told. told.still) (finds_value kw vw op L law p r k d see (value_of x.claims) j x room low at))
+
+-- ---- a get of a word of a key
+
+module _ (kw vw : ℕ) (key value : List ℕ → Bool) (op : Words → Words → Words) (L : Shape) (law : Lawful L) (p r : ℕ) (k : Words) (d : ℕ) (see : MaySee L p r k) where
+  pub key_step : (j w : ℕ) (x : Note) → kw ≤ 8 → IsWords kw k → j < kw → x.claims ≡ comparing k d j → w ≡ size kw vw * path L k d + (1 + j)
+      → Moves (next op) permits (Holds kw vw key value) L p r x w (λ n. n) (Typed key value (FindsKey kw vw op L k d j x))
+  key_step j w x room is_key low at is = subst (λ (z : ℕ). Moves (next op) permits (Holds kw vw key value) L p r x z (λ n. n) (Typed key value (FindsKey kw vw op L k d j x))) (sym is)
+      (typed_step kw vw key value op L p r x _ (FindsKey kw vw op L k d j x) (λ n t did y told. told.still) (finds_key kw vw op L law p r k d see j x room is_key low at))
+
+-- ---- a get of a control word
+
+module _ (kw vw : ℕ) (key value : List ℕ → Bool) (op : Words → Words → Words) (L : Shape) (law : Lawful L) (p r : ℕ) (k : Words) (d : ℕ) (see : MaySee L p r k) where
+  pub control_step : (w : ℕ) (x : Note) → x.claims ≡ walked k d → w ≡ size kw vw * path L k d + 0
+      → Moves (next op) permits (Holds kw vw key value) L p r x w (λ n. n) (Typed key value (FindsControl kw vw op L k d x))
+  control_step w x at is = subst (λ (z : ℕ). Moves (next op) permits (Holds kw vw key value) L p r x z (λ n. n) (Typed key value (FindsControl kw vw op L k d x))) (sym is)
+      (typed_step kw vw key value op L p r x _ (FindsControl kw vw op L k d x) (λ n t did y told. told.still) (finds_control kw vw op L law p r k d see x at))
+
+-- ---- a place is passed
+
+module _ (kw vw : ℕ) (op : Words → Words → Words) (L : Shape) (k : Words) (d : ℕ) (v w : MapView) where
+  pub passed_by : (then : ℕ → Pairs → List (MapCall Words Words) → Note → Type 0) (n : ℕ) → Took ranks first_pairs (next op) permits L get v w → (told : Told first_pairs (next op) L v then n w)
+      → Passes kw vw op L k d v.note (state_after (next op L) (first_pairs L) told.history) told.did w.note → IsPassed op L k d v w
+  passed_by then n took told passes = record {
+    on = λ more. let on = passes.on more in (still_by ranks first_pairs (next op) permits L get v w then n took told on.0, ap (λ (x : Note). x.claims) on.1);
+    ends = λ last. let end = passes.ends last in (stands_one ranks first_pairs (next op) permits L get v w then n (Find k) Absent took told end.0 end.1, ap (λ (x : Note). x.claims) end.2);
+  }
+
+  pub passed_behind : (u : MapView) → Still u v → IsPassed op L k d v w → IsPassed op L k d u w
+  passed_behind u still passed = record {
+    on = λ more. let on = passed.on more in (still_trans u v w still on.0, on.1);
+    ends = λ last. let end = passed.ends last in (subst (λ (r : ℕ). Stands op L u w (event r (Find k) Absent ∷ [])) still.same.same_rank (stands_behind ranks first_pairs (next op) permits L u v w _ still end.0), end.1);
+  }
+
+-- ---- what was got
+
+-- one word more
+pub more_lies : (got item : List ℕ) (j n : ℕ) → length got ≡ 8 → j < 8 → Lies got 0 item j → n ≡ slice_index item j → Lies (slice_set got j n) 0 item (j + 1)
+more_lies got item j n long room lies is = subst (λ (z : ℕ × ℕ). Lies (slice_set got z.0 z.1) 0 item (j + 1)) (λ i. (from_zero i, sym is i)) (lies_put got 0 item j (subst (λ (m : ℕ). 0 + j < m) (sym long) (omega arith)) lies)
+  where
+    from_zero : 0 + j ≡ j
+    from_zero = omega arith
+
+pub zeros_next : (got : List ℕ) (j n : ℕ) → ((k : ℕ) → j ≤ k → slice_index got k ≡ 0) → (k : ℕ) → j + 1 ≤ k → slice_index (slice_set got j n) k ≡ 0
+zeros_next got j n zeros k later = get_or-set_other got j k n 0 (omega arith) ∙ zeros k (omega arith)
+
+-- all words
+pub whole_object : (width : ℕ) (got item : List ℕ) (j n : ℕ) → length got ≡ 8 → j < 8 → Lies got 0 item j → n ≡ slice_index item j → ((k : ℕ) → j ≤ k → slice_index got k ≡ 0) → j + 1 ≡ width → IsWords width item → slice_set got j n ≡ item
+whole_object width got item j n long room lies is zeros last words = same_number_lists (slice_set got j n) item (length-set got j n ∙ (long ∙ sym words.len))
+    (λ k below. ⊎_elim (λ (less : k < width). plain_at k ∙ more_lies got item j n long room lies is k (omega arith))
+    (λ (most : width ≤ k). zeros_next got j n zeros k (omega arith) ∙ sym (past width item words k most (let all : length (slice_set got j n) ≡ 8 = length-set got j n ∙ long in omega arith))) (cases_lt k width))
+  where
+    plain_at : (k : ℕ) → slice_index (slice_set got j n) k ≡ slice_index (slice_set got j n) (0 + k)
+    plain_at k = let same : k ≡ 0 + k = omega arith in ap (slice_index (slice_set got j n)) same

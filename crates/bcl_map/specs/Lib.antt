@@ -1,0 +1,11 @@
+pub mod Map
+pub mod Cells
+pub mod Notes
+pub mod Fits
+pub mod Steps
+pub mod Finds
+pub mod Ranks
+pub mod Parts
+pub mod Calls
+pub mod Looks
+pub mod Closed

@@ -1,0 +1,100 @@
+//! Who has a map alone.
+
+ghost use Rattle.std.specs.Prelude.{◌≡◌, None};
+ghost use Rattle.bcl_phase.specs.Parts.{home_view, home_key, home_layout, home_heads};
+ghost use Rattle.bcl_map.specs.Map.{IsShaped};
+
+use crate::lead::MapLead;
+use crate::map::{Buckets, Map, MapGrants};
+use crate::note::Note;
+use crate::pass::MapPass;
+use crate::shape::Shape;
+use bcl_phase::{Home, Phased, Promise, Refused};
+use bcl_segment::Layout;
+use bcl_words::{MergeLaw, NoMemory, Object};
+use std::alloc::Global;
+
+/// A map that one caller has alone: no pass is out.
+#[derive(Drop)]
+pub struct MapHome<K, V, L>
+where
+    Map<K, V, L>: Buckets + Phased<Note = Note, Key = Shape>,
+{
+    pub(crate) home: Home<Map<K, V, L>>,
+    ghost shape: { IsShaped ⟦<Map<K, V, L> as Buckets>⟧.key_width ⟦<Map<K, V, L> as Buckets>⟧.value_width (home_heads home) (home_layout home) (home_key home) },
+    ghost unknown: { (home_view home).words ≡ None },
+}
+
+impl<K: Object, V: Object, L: MergeLaw<V>> MapHome<K, V, L> {
+    ghost use Rattle.std.specs.Prelude.{◌≡◌, ◌+◌, ◌*◌, ◌≤◌, ◌^◌, ℕ, length, IfOk, IfErr};
+    ghost use mathlib.Core.Option.{some};
+    ghost use lib.ListN.{get_elem?};
+    ghost use Rattle.bcl_words.specs.Words.{Fits};
+    ghost use Rattle.bcl_phase.specs.Views.{opened};
+    ghost use Rattle.bcl_phase.specs.Phases.{begun};
+    ghost use Rattle.bcl_map.specs.Notes.{rest};
+    ghost use Rattle.bcl_map.specs.Parts as map;
+
+    /// A map without pairs, of `ranks * per_rank` buckets. It makes no step.
+    ///
+    /// Condition: a key and a value fit; there are 1 to 64 ranks, at least one bucket a rank, and at most 2^27 words.
+    pub fn new(alloc: Global, ranks: u32, per_rank: u32) -> Result<MapHome<K, V, L>, NoMemory>
+        requires key { Fits K.WORDS }
+        requires value { Fits V.WORDS }
+        requires ranks { (1 ≤ ranks) × (ranks ≤ 64) }
+        requires buckets { 1 ≤ per_rank }
+        requires words { ranks * per_rank * (1 + (K.WORDS + V.WORDS)) ≤ 2 ^ 27 }
+        ensures empty { IfOk result (λ h. map.home_view h ≡ opened (record { ranks = ranks; per_rank = per_rank; width = K.WORDS }) ranks rest) }
+        ensures key { IfOk result (λ h. map.home_key h ≡ record { ranks = ranks; per_rank = per_rank; width = K.WORDS }) }
+        ensures layout { IfOk result (λ h. map.home_layout h ≡ record { ranks = ranks; per_rank = per_rank * (1 + (K.WORDS + V.WORDS)) }) }
+    {
+        let bucket = 1 + (K::WORDS + V::WORDS) as u32;
+        let layout = Layout {
+            ranks,
+            per_rank: per_rank * bucket,
+        };
+        let shape = Shape {
+            ranks,
+            per_rank,
+            width: K::WORDS as u32,
+        };
+        let words = [0u64].repeat(alloc, (ranks * layout.per_rank) as usize)?;
+        let home = Home::new(alloc, layout, 0, words, &shape)?;
+        Ok(MapHome { home })
+    }
+
+    /// How many ranks there are, and how many buckets each has.
+    pub fn shape(&self) -> Layout
+        ensures shape { result ≡ record { ranks = (map.home_key self.now).ranks; per_rank = (map.home_key self.now).per_rank } }
+    {
+        let layout = self.home.layout();
+        let bucket = 1 + (K::WORDS + V::WORDS) as u32;
+        Layout {
+            ranks: layout.ranks,
+            per_rank: layout.per_rank / bucket,
+        }
+    }
+
+    /// Begins a phase: as many passes as there are ranks, rank i at place i, and the lead that ends it.
+    ///
+    /// It refuses for want of memory alone, and hands the home back unchanged.
+    pub fn begin<P: Promise>(
+        self,
+        alloc: Global,
+    ) -> Result<(MapLead<K, V, L>, Vec<MapPass<P, K, V, L>>), Refused<MapHome<K, V, L>>>
+    where
+        Map<K, V, L>: MapGrants<P>,
+        ensures count { IfOk result (λ r. length r.1.items ≡ (map.home_layout self).ranks) }
+        ensures begun { IfOk result (λ r. (i : ℕ) (p : _) → get_elem? r.1.items i ≡ some p → map.pass_view p ≡ begun rest P.CODE (map.home_key self) (map.home_view self).seen i) }
+        ensures of { IfOk result (λ r. (i : ℕ) (p : _) → get_elem? r.1.items i ≡ some p → map.IsOf p r.0) }
+        ensures lead { IfOk result (λ r. map.IsLeadOf r.0 self × ((map.lead_view r.0).start ≡ (map.home_view self).seen) × ((map.lead_view r.0).promise ≡ P.CODE)) }
+        ensures refused { IfErr result (λ e. map.IsUnchanged self e.home) }
+    {
+        match self.home.begin::<P, MapPass<P, K, V, L>>(alloc) {
+            Ok((lead, passes)) => Ok((MapLead { lead }, passes)),
+            Err(refused) => Err(Refused {
+                home: MapHome { home: refused.home },
+            }),
+        }
+    }
+}
