@@ -34,7 +34,7 @@ use Rattle.bcl_map.proofs.Gets.{near, shows_tag, absent_behind, absent_at_end, g
 
 -- ---- claims that read no place and write none
 
-abbrev IsPlain : Claim → Type 0
+abbrev pub IsPlain : Claim → Type 0
 IsPlain (passed k d) = Unit {0}
 IsPlain (keyed k d) = Unit {0}
 IsPlain (alike k d g) = Unit {0}
@@ -46,7 +46,7 @@ IsPlain (grips i l k old v n) = ⊥
 IsPlain (many b) = Unit {0}
 IsPlain (met i b) = Unit {0}
 
-abbrev ArePlain : List Claim → Type 0
+abbrev pub ArePlain : List Claim → Type 0
 ArePlain [] = Unit {0}
 ArePlain (a ∷ as') = IsPlain a × ArePlain as'
 
@@ -66,17 +66,17 @@ pub none_reads : (i : ℕ) (as' : List Claim) → ArePlain as' → reads_all i a
 none_reads i [] h = refl
 none_reads i (a ∷ as') h = let one = plain_reads i a h.0 in let others = none_reads i as' h.1 in omega arith
 
-none_grips : (j : ℕ) (l : Lock) (k : Words) (old : Before) (v : Words) (n : ℕ) (as' : List Claim) → ArePlain as' → Has (grips j l k old v n) as' → ⊥
+pub none_grips : (j : ℕ) (l : Lock) (k : Words) (old : Before) (v : Words) (n : ℕ) (as' : List Claim) → ArePlain as' → Has (grips j l k old v n) as' → ⊥
 none_grips j l k old v n [] h has = has
 none_grips j l k old v n (a ∷ as') h has = ⊎_elim (λ (e : a ≡ grips j l k old v n). subst IsPlain e h.0) (λ z. none_grips j l k old v n as' h.1 z) has
 
-plain_same : (x : Note) (as' bs : List Claim) → x.claims ≡ as' → ArePlain as' → ArePlain bs → (j : ℕ) → SameAt j x (with_claims x bs)
+pub plain_same : (x : Note) (as' bs : List Claim) → x.claims ≡ as' → ArePlain as' → ArePlain bs → (j : ℕ) → SameAt j x (with_claims x bs)
 plain_same x as' bs e plain plain' j = (
   none_reads j bs plain' ∙ sym (ap (reads_all j) e ∙ none_reads j as' plain),
   λ l k old v n has. absurd (none_grips j l k old v n as' plain (subst (Has (grips j l k old v n)) e has)),
 )
 
-walked_plain : (k : Words) (d : ℕ) → ArePlain (walked k d)
+pub walked_plain : (k : Words) (d : ℕ) → ArePlain (walked k d)
 walked_plain k zero = tt
 walked_plain k (suc d) = (tt, tt)
 
@@ -87,7 +87,7 @@ past width w is b most below = let at : width + (b - width) ≡ b = omega arith 
     ap (slice_index w) (sym at) ∙ sym (get_or-drop width w (b - width) 0) ∙ ap (λ (l : List ℕ). slice_index l (b - width)) is.zeros ∙ get_or-replicate (8 - width) (b - width) 0 0 (omega arith)
 
 -- objects of the same own words
-same_object : (width : ℕ) (v w : Words) → IsWords width v → IsWords width w → ((b : ℕ) → b < width → slice_index v b ≡ slice_index w b) → v ≡ w
+pub same_object : (width : ℕ) (v w : Words) → IsWords width v → IsWords width w → ((b : ℕ) → b < width → slice_index v b ≡ slice_index w b) → v ≡ w
 same_object width v w is is' own = same_number_lists v w (is.len ∙ sym is'.len) (λ b below. let short : b < 8 = subst (λ (n : ℕ). b < n) is.len below in ⊎_elim
     (λ (less : b < width). own b less)
     (λ (most : width ≤ b). past width v is b most short ∙ sym (past width w is' b most short)) (cases_lt b width))
@@ -104,17 +104,17 @@ own_words width w most is = length-take-le width w (subst (λ (n : ℕ). width �
 
 -- ---- places
 
+pub by_cell : (c : Cell) (F : Type 0) → (c ≡ free → F) → ((o : Words) → key_of c ≡ some o → F) → F
+by_cell free F none_there one_there = none_there refl
+by_cell (kept o) F none_there one_there = one_there o refl
+by_cell (busy l q o old v n) F none_there one_there = one_there o refl
+
 module _ (kw vw : ℕ) (op : Words → Words → Words) (L : Shape) (law : Lawful L) (p r : ℕ) (k : Words) (d : ℕ) (sure : MaySee L p r k) where
   may_find : permits L p r (Find k)
   may_find = ⊎_elim (λ (e : p ≡ finding). subst (λ (q : ℕ). permits L q r (Find k)) (sym e) tt) (λ (t : (p ≡ owning) × (home L k ≡ r)). subst (λ (q : ℕ). permits L q r (Find k)) (sym t.0) t.1) sure
 
   one_find : All (permits L p r) (Find k ∷ [])
   one_find = All-cons (permits L p r) (Find k) [] may_find (All-nil (permits L p r))
-
-  by_cell : (c : Cell) (F : Type 0) → (c ≡ free → F) → ((o : Words) → key_of c ≡ some o → F) → F
-  by_cell free F none_there one_there = none_there refl
-  by_cell (kept o) F none_there one_there = one_there o refl
-  by_cell (busy l q o old v n) F none_there one_there = one_there o refl
 
   absent : (t : Pairs) → value_at k t ≡ None → (next op L t (Find k)).0 ≡ Absent
   absent t e = ap found e
@@ -129,7 +129,7 @@ module _ (kw vw : ℕ) (op : Words → Words → Words) (L : Shape) (law : Lawfu
 
   module _ (x : Note) (as' : List Claim) (at : x.claims ≡ as') (plain : ArePlain as') (ws : List ℕ) (t : Pairs) (notes : List Note) (is : get_elem? notes r ≡ some x) (f : Fits kw vw L p ws t notes) (w : ℕ) where
     -- on, with other claims
-    on : (tells : ℕ → Pairs → List (MapCall Words Words) → Note → Type 0) (bs : List Claim) → ArePlain bs → AllSay L p t f.cells r bs → tells (slice_index ws w) t [] (with_claims x bs)
+    pub on : (tells : ℕ → Pairs → List (MapCall Words Words) → Note → Type 0) (bs : List Claim) → ArePlain bs → AllSay L p t f.cells r bs → tells (slice_index ws w) t [] (with_claims x bs)
         → (did' : List (MapCall Words Words)) × (y' : Note) × All (permits L p r) did' × Fits kw vw L p (slice_set ws w (slice_index ws w)) (state_by (next op L) t did') (slice_set notes r y') × tells (slice_index ws w) t did' y'
     on tells bs plain' says told = gets L law kw vw op p r x w tells ws t notes f (with_claims x bs) [] is (plain_same x as' bs at plain plain') says (λ j. none_reads j bs plain') (All-nil (permits L p r)) refl told
 
@@ -187,7 +187,7 @@ module _ (kw vw : ℕ) (op : Words → Words → Words) (L : Shape) (law : Lawfu
 
   -- whoever may see the value of a key meets no place that another rank writes
   module _ (x : Note) (as' : List Claim) (at : x.claims ≡ as') (plain : ArePlain as') (ws : List ℕ) (t : Pairs) (notes : List Note) (is : get_elem? notes r ≡ some x) (o : Words) (same : home L o ≡ home L k) where
-    none_writes : (i : ℕ) (l : Lock) (q : ℕ) (old : Before) (v : Words) (n : ℕ) → MayWrite kw vw L p l q o n → Named kw vw L notes q i l o old v n → ⊥
+    pub none_writes : (i : ℕ) (l : Lock) (q : ℕ) (old : Before) (v : Words) (n : ℕ) → MayWrite kw vw L p l q o n → Named kw vw L notes q i l o old v n → ⊥
     none_writes i shown q old v n may named = ⊎_elim
         (λ (e : p ≡ finding). let e' : p ≡ owning = may.0 in omega arith)
         (λ (e : (p ≡ owning) × (home L k ≡ r)). let me : q ≡ r = sym may.1 ∙ same ∙ e.1 in
@@ -198,7 +198,7 @@ module _ (kw vw : ℕ) (op : Words → Words → Words) (L : Shape) (law : Lawfu
     none_writes i held q old v n may named = let e' : p ≡ filling = may.0 in ⊎_elim (λ (e : p ≡ finding). omega arith) (λ (e : (p ≡ owning) × (home L k ≡ r)). let e'' = e.0 in omega arith) sure
 
     -- so the place is whole
-    whole : (i : ℕ) (c : Cell) → key_of c ≡ some o → IsContent kw vw L p ws t notes i c → (v : Words) × HasValue kw vw L t o v × Lies kw vw ws i (content kw vw o v) (kw + vw)
+    pub whole : (i : ℕ) (c : Cell) → key_of c ≡ some o → IsContent kw vw L p ws t notes i c → (v : Words) × HasValue kw vw L t o v × Lies kw vw ws i (content kw vw o v) (kw + vw)
     whole i free e ok = absurd (some-ne-none o (sym e))
     whole i (kept a) e ok = subst (λ (z : Words). (v : Words) × HasValue kw vw L t z v × Lies kw vw ws i (content kw vw z v) (kw + vw)) (some-injective a o e) ok
     whole i (busy l q a old v n) e ok = let is' = some-injective a o e in absurd (none_writes i l q old v n (subst (λ (z : Words). MayWrite kw vw L p l q z n) is' ok.4) (subst (λ (z : Words). Named kw vw L notes q i l z old v n) is' ok.5))

@@ -1,6 +1,5 @@
--- A get of a control word on a path.
-use Rattle.std.proofs.Common.{◌≡◌, ◌≢◌, ℕ, suc, ◌+◌, ◌*◌, ◌/◌, ◌%◌, ◌<◌, ◌≤◌, List, [], length, set, get_or, slice_index, slice_set, refl, sym, ap, ◌∙◌, subst, ⊎_elim, arith, Some, None, mod-lt, lt_of_not-le, Option}
-use Rattle.std.proofs.lemmas.List.Elements.{All-nil}
+-- What a get shows, and what is known of a place on a path.
+use Rattle.std.proofs.Common.{◌≡◌, ◌≢◌, ℕ, suc, ◌+◌, ◌*◌, ◌/◌, ◌%◌, ◌<◌, List, set, get_or, slice_index, slice_set, refl, sym, ap, ◌∙◌, subst, arith, Some, None, mod-lt, lt_of_not-le, Option}
 use Rattle.std.specs.List.{All}
 use native.Mathlib.Decide.{ℕ_discrete, dec_le}
 use mathlib.Core.Logic.{dite}
@@ -13,13 +12,10 @@ use Rattle.bcl_event.specs.declared.map.MapCall.{MapCall}
 use Rattle.bcl_event.specs.Map.{Pairs, value_at}
 use Rattle.bcl_map.specs.Map.{places, Words, Lawful, home, path, next, permits, tag}
 use Rattle.bcl_map.specs.Cells.{Cell, free, kept, busy, key_of, used, Bars, control}
-use Rattle.bcl_map.specs.declared.note.Lock.{Lock}
 use Rattle.bcl_map.specs.declared.note.Lock.TheVariants.{Shown as shown, Reserved as reserved, Held as held}
-use Rattle.bcl_map.specs.declared.note.Before.{Before}
-use Rattle.bcl_map.specs.Notes.{Claim, passed, grips, Note, Has, reads_all, readers, Says, AllSay}
-use Rattle.bcl_map.specs.Fits.{PlaceOk, Fits, fits}
-use Rattle.bcl_map.specs.Steps.{with_claims, control_at, walking, at_free, at_alike, SeesControl, GetsControl}
-use Rattle.bcl_map.proofs.Counts.{bars_key, bars_not, in_use}
+use Rattle.bcl_map.specs.Notes.{passed, Note, reads_all, Says, AllSay}
+use Rattle.bcl_map.specs.Fits.{Fits, fits}
+use Rattle.bcl_map.proofs.Counts.{bars_not, in_use}
 use Rattle.bcl_map.proofs.Frames.{SameAt, renotes}
 
 pub value_none : (o : Option Words) → ((v : Words) → o ≢ Some v) → o ≡ None
@@ -79,53 +75,3 @@ module _ (L : Shape) (law : Lawful L) where
       subst (λ (z : List ℕ × Pairs). Fits kw vw L p z.0 z.1 (set notes r y)) (λ j. (sym (set-get_or ws i 0) j, sym still j)) (renotes kw vw L p ws t notes f r x y is same says (λ j. let z = none_read j in omega arith)),
       told,
     )
-
-    -- claims of a walk neither read a place nor write one
-    walks_alike : (x : Note) (k : Words) (d b : ℕ) (claims : List Claim) → x.claims ≡ walking kw vw op L k d b → ((j : ℕ) → reads_all j claims ≡ 0) → (j : ℕ) → SameAt j x (with_claims x claims)
-    walks_alike x k d b claims e none_read j = (
-      none_read j ∙ sym (ap (reads_all j) e),
-      λ l a old v n h. no_grip (subst (Has (grips j l a old v n)) e h),
-    )
-      where
-        no_grip : {j : ℕ} {l : Lock} {a : Words} {old : Before} {v : Words} {n : ℕ} → Has (grips j l a old v n) (walking kw vw op L k d b) → Has (grips j l a old v n) claims
-        no_grip h = ⊎_elim (λ z. absurd (cc)) (λ h'. ⊎_elim (λ z. absurd cc) (λ h''. ⊎_elim (λ z. absurd cc) (λ z. absurd z) h'') h') h
-
-    module _ (p r : ℕ) (x : Note) (k : Words) (d b : ℕ) (walks : x.claims ≡ walking kw vw op L k d b) where
-      -- a place that is free, or has a key
-      by_cell : (c : Cell) (F : Type 0) → (c ≡ free → F) → ((o : Words) → key_of c ≡ some o → F) → F
-      by_cell free F none_there one_there = none_there refl
-      by_cell (kept o) F none_there one_there = one_there o refl
-      by_cell (busy l q o old v n) F none_there one_there = one_there o refl
-
-      -- (a) a get of a control word by a walk
-      pub gets_control : GetsControl kw vw op L p r x k d b
-      gets_control _ _ ws t notes is f small =
-          let i : ℕ = path L k d in
-          let n : ℕ = slice_index ws (control_at kw vw op L k d) in
-          let ok : PlaceOk kw vw L p ws t notes i (get_or f.cells i free) = f.each i (near k d) in
-          let knew : AllSay L p t f.cells r (walking kw vw op L k d b) = subst (AllSay L p t f.cells r) walks (f.noted r x is) in
-          by_cell (get_or f.cells i free) _
-          (λ (e : get_or f.cells i free ≡ free).
-          let zero_there : n ≡ 0 = ok.shows ∙ ap (control L (readers i notes)) e in
-          gets p r x (control_at kw vw op L k d) (SeesControl kw vw op L k d b x) ws t notes f (with_claims x (at_free kw vw op L k d b)) [] is
-          (walks_alike x k d b (at_free kw vw op L k d b) walks (λ _. refl))
-          (knew.0, (knew.1.0, ((let more : b ≤ length t = knew.1.1.0 in let none_there : used (get_or f.cells i free) ≡ 0 = ap used e in omega arith), tt)))
-          (λ _. refl) (All-nil (permits L p r)) refl
-          ((λ _. (refl, refl)), (λ no _. absurd (no zero_there)), (λ no _. absurd (no zero_there))))
-          (λ (o : Words) (e : key_of (get_or f.cells i free) ≡ some o).
-          let shown_there = shows_tag (readers i notes) (get_or f.cells i free) o e in
-          let some_there : n ≢ 0 = λ z. shown_there.0 (sym ok.shows ∙ z) in
-          let tag_is : tag n ≡ home L o = ap tag ok.shows ∙ shown_there.1 in
-          dite (ℕ_discrete (home L o) (home L k))
-          (λ (same : home L o ≡ home L k).
-          gets p r x (control_at kw vw op L k d) (SeesControl kw vw op L k d b x) ws t notes f (with_claims x (at_alike kw vw op L k d 0 b)) [] is
-          (walks_alike x k d b (at_alike kw vw op L k d 0 b) walks (λ _. refl))
-          (knew.0, (knew.1.0, (knew.1.1.0, ((o, e, same, (λ g l. absurd (omega arith))), tt))))
-          (λ _. refl) (All-nil (permits L p r)) refl
-          ((λ z. absurd (some_there z)), (λ _ _. (refl, refl)), (λ _ no. absurd (no (tag_is ∙ same)))))
-          (λ (ne : home L o ≢ home L k).
-          gets p r x (control_at kw vw op L k d) (SeesControl kw vw op L k d b x) ws t notes f (with_claims x (walking kw vw op L k (suc d) b)) [] is
-          (walks_alike x k d b (walking kw vw op L k (suc d) b) walks (λ _. refl))
-          (knew.0, (passed_more p t f.cells r k d knew.1.0 (bars_key k o (get_or f.cells i free) e (λ z. ne (ap (home L) z))), (knew.1.1.0, tt)))
-          (λ _. refl) (All-nil (permits L p r)) refl
-          ((λ z. absurd (some_there z)), (λ _ z. absurd (ne (sym tag_is ∙ z))), (λ _ _. (refl, refl)))))

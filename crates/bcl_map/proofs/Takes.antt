@@ -1,6 +1,6 @@
 -- The exchange of a control word from FREE to READY, under Own.
 use Rattle.std.proofs.Common.{◌≡◌, ◌≢◌, ℕ, zero, suc, ◌+◌, ◌*◌, ◌<◌, ◌≤◌, ◌⊎◌, inl, inr, List, [], ◌∷◌, length, set, get_or, slice_index, slice_set, refl, sym, ap, ◌∙◌, subst, ⊎_elim, arith, Some, None, ne_eqb, eq-eqb, cond, length-set, get_or-set_other, get_or-set_same}
-use Rattle.std.specs.Prelude.{◌==◌, if◌then◌else◌}
+use Rattle.std.specs.Prelude.{Bool, true, ◌==◌, if◌then◌else◌}
 use Rattle.std.proofs.lemmas.List.Elements.{All-nil, All-cons}
 use Rattle.std.specs.List.{All}
 use Rattle.std.specs.declared.cmp.Ordering.{Ordering}
@@ -13,26 +13,30 @@ use Rattle.std.proofs.lemmas.Option.{none-some}
 use native.Mathlib.Decide.{ℕ_discrete}
 use mathlib.Core.Logic.{dite}
 use mathlib.Core.Option.{some, some-ne-none, some-injective}
-use Rattle.bcl_map.specs.declared.shape.Shape.{Shape}
+use Rattle.bcl_words.specs.Words.{IsWords}
 use Rattle.bcl_event.specs.History.{state_by}
 use Rattle.bcl_event.specs.declared.map.MapCall.{MapCall}
 use Rattle.bcl_event.specs.declared.map.MapCall.TheVariants.{Insert, Merge}
 use Rattle.bcl_event.specs.declared.map.MapReply.TheVariants.{New, Full}
 use Rattle.bcl_event.specs.Map.{Pairs, value_at, with_pair, stored}
-use Rattle.bcl_event.specs.Stored.{Stores}
+use Rattle.bcl_event.specs.Stored.{Stores as HasStored}
 use Rattle.bcl_event.proofs.Values.{pair_stores}
-use Rattle.bcl_map.specs.Map.{places, Words, Lawful, finding, owning, filling, home, path, next, permits, size, word}
-use Rattle.bcl_map.specs.Cells.{Cell, free, kept, busy, key_of, used, control}
+use Rattle.bcl_phase.specs.Rule.{Moves}
+use Rattle.bcl_map.specs.declared.shape.Shape.{Shape}
 use Rattle.bcl_map.specs.declared.note.Lock.{Lock}
 use Rattle.bcl_map.specs.declared.note.Lock.TheVariants.{Shown as shown, Reserved as reserved, Held as held}
 use Rattle.bcl_map.specs.declared.note.Before.{Before}
 use Rattle.bcl_map.specs.declared.note.Before.TheVariants.{Nothing}
+use Rattle.bcl_map.specs.Map.{places, Words, Lawful, finding, owning, filling, home, path, next, permits, size, word}
+use Rattle.bcl_map.specs.Cells.{Cell, free, kept, busy, key_of, used, control}
 use Rattle.bcl_map.specs.Notes.{Claim, passed, keyed, alike, mine, certain, lacking, lent, grips, many, met, Note, Has, reads_all, readers, Says, AllSay}
-use Rattle.bcl_map.specs.Fits.{IsContent, MayBeRead, PlaceOk, Placed, Fits, fits}
-use Rattle.bcl_map.specs.Steps.{with_claims, control_at, walking, at_free, Takes, TakesFree, ready}
-use Rattle.bcl_map.proofs.Counts.{set_here, has_room, apart, inside, bars_used}
+use Rattle.bcl_map.specs.Fits.{IsContent, MayBeRead, PlaceOk, Placed, Fits, fits, AreTyped, Holds}
+use Rattle.bcl_map.specs.Steps.{with_claims, Step, control_at}
+use Rattle.bcl_map.specs.Inserts.{heading, facing, writing, least, Stores, ready, Takes}
+use Rattle.bcl_map.proofs.Counts.{set_here, has_room, apart, inside, bars_key, bars_used, in_use}
 use Rattle.bcl_map.proofs.Frames.{SameAt, SameWords, readers_stay, Stays, here, carry, changes}
-use Rattle.bcl_map.proofs.Gets.{near, absent_behind, gets}
+use Rattle.bcl_map.proofs.Gets.{near, passed_more, gets}
+use Rattle.bcl_map.proofs.Finds.{none_grips}
 
 -- keys are alike or not
 pub same_or_not : (a b : Words) → (a ≡ b) ⊎ (a ≢ b)
@@ -55,6 +59,21 @@ at_end (x ∷ xs) (suc j) k e = let l = at_end xs j k e in omega arith
 new_stored : (C : ℕ) (k v : Words) (f : Words → Words) (t : Pairs) → value_at k t ≡ None → length t ≢ C → stored C k v f t (value_at k t) ≡ (New, with_pair k v t)
 new_stored C k v f t e ne = ap (stored C k v f t) e ∙ ap (λ z. cond z (Full, t) (New, with_pair k v t)) (ne_eqb (length t) C ne)
 
+-- ---- with the types of keys and values
+
+-- a step that keeps the types of the pairs
+pub holds_step : (kw vw : ℕ) (key value : List ℕ → Bool) (op : Words → Words → Words) (L : Shape) (p r : ℕ) (x : Note) (i : ℕ) (f : ℕ → ℕ) (tells : ℕ → Pairs → List (MapCall Words Words) → Note → Type 0)
+    → Step kw vw op L p r x i f (λ n t did y. tells n t did y × (AreTyped key value t → AreTyped key value (state_by (next op L) t did))) → Moves (next op) permits (Holds kw vw key value) L p r x i f tells
+holds_step kw vw key value op L p r x i f tells step ws t xs is h small = let s = step ws t xs is h.places small in
+    (s.0, s.1, s.2, record { places = s.3; typed = s.4.1 h.typed }, s.4.0)
+
+-- a typed pair is stored
+pub typed_stored : (key value : List ℕ → Bool) (k v : Words) (t t' : Pairs) (m : ℕ) → HasStored k v t t' m → key k ≡ true → value v ≡ true → AreTyped key value t → AreTyped key value t'
+typed_stored key value k v t t' m st typed_k typed_v typed a u e = ⊎_elim
+    (λ (z : a ≡ k). let same : Some v ≡ Some u = sym st.there ∙ (ap (λ (o : Words). value_at o t') (sym z) ∙ e) in let value_is : v ≡ u = cc in
+    (ap key z ∙ typed_k, ap value (sym value_is) ∙ typed_v))
+    (λ (ne : a ≢ k). typed a u (sym (st.others a ne) ∙ e)) (same_or_not a k)
+
 module _ (kw vw : ℕ) (L : Shape) (law : Lawful L) where
   module _ (p : ℕ) (ws : List ℕ) (t : Pairs) (notes : List Note) (f : Fits kw vw L p ws t notes) where
     pub has_value : (j : ℕ) (k : Words) → key_of (get_or f.cells j free) ≡ some k → (v : Words) × (value_at k t ≡ Some v)
@@ -76,7 +95,7 @@ module _ (kw vw : ℕ) (L : Shape) (law : Lawful L) where
   same_words ws i b w n lb is j ne a la = get_or-set_other ws w (size kw vw * j + a) n 0 (λ e. apart (size kw vw) j i a b ne la lb (e ∙ is))
 
   -- the claims of other ranks stay, as a free place gets a key that this rank alone may insert
-  new_stays : (i r q : ℕ) (t : Pairs) (cells : List Cell) (k v : Words) (c : Cell) → used c ≡ 1 → home L k ≡ r → q ≢ r → value_at k t ≡ None → Stores k v t (with_pair k v t) 1
+  new_stays : (i r q : ℕ) (t : Pairs) (cells : List Cell) (k v : Words) (c : Cell) → used c ≡ 1 → home L k ≡ r → q ≢ r → value_at k t ≡ None → HasStored k v t (with_pair k v t) 1
       → (a : Claim) → Says L owning t cells q a → Stays kw vw L q i t (with_pair k v t) free c a
   new_stays i r q t cells k v c one mine' ne new st (passed o d) h = λ z. absurd z
   new_stays i r q t cells k v c one mine' ne new st (keyed o d) h = λ z. absurd (some-ne-none o (sym z))
@@ -91,101 +110,123 @@ module _ (kw vw : ℕ) (L : Shape) (law : Lawful L) where
   new_stays i r q t cells k v c one mine' ne new st (many b) h = λ z. let m = st.keys in omega arith
   new_stays i r q t cells k v c one mine' ne new st (met j b) h = ((λ _ z. let m = st.keys in omega arith), (let m = st.keys in omega arith))
 
-  module _ (op : Words → Words → Words) (r : ℕ) (x : Note) (call : MapCall Words Words) (k v : Words) (d b : ℕ) where
-    pub takes_free : TakesFree kw vw op L r x call k v d b
-    takes_free at_claims short long_k long_v may which mine' ws t notes is f small = traded n 0 m Outcome
-        (λ hit. won hit (get_or f.cells i free) refl) lost
-      where
-        i : ℕ
-        i = path L k d
+module _ (kw vw : ℕ) (key value : List ℕ → Bool) (op : Words → Words → Words) (L : Shape) (law : Lawful L) (r : ℕ) (c : MapCall Words Words) (k v : Words) (d : ℕ) (own : home L k ≡ r) (may : permits L owning r c) (stores : Stores k v c) where
+  takes_free : (x : Note) → d < places L → IsWords kw k → IsWords vw v → key k ≡ true → value v ≡ true → x.claims ≡ facing L k d (least x.claims)
+      → Step kw vw op L owning r x (control_at kw vw op L k d) (λ z. if z == 0 then ready kw vw op L k else z) (λ n t did y. Takes kw vw op L c k v d x n t did y × (AreTyped key value t → AreTyped key value (state_by (next op L) t did)))
+  takes_free x short long_k long_v typed_k typed_v at_claims ws t notes is f small = traded n 0 m Outcome
+      (λ hit. won hit (get_or f.cells i free) refl) (λ miss. lost miss (get_or f.cells i free) refl)
+    where
+      b : ℕ
+      b = least x.claims
 
-        w : ℕ
-        w = control_at kw vw op L k d
+      i : ℕ
+      i = path L k d
 
-        n : ℕ
-        n = slice_index ws w
+      w : ℕ
+      w = control_at kw vw op L k d
 
-        m : ℕ
-        m = ready kw vw op L k
+      n : ℕ
+      n = slice_index ws w
 
-        tells : ℕ → Pairs → List (MapCall Words Words) → Note → Type 0
-        tells = Takes kw vw op L call k v r d b x
+      m : ℕ
+      m = ready kw vw op L k
 
-        Outcome : ℕ → Type 0
-        Outcome z = (did : List (MapCall Words Words)) × (y : Note) × All (permits L owning r) did × fits kw vw L owning (slice_set ws w z) (state_by (next op L) t did) (set notes r y) × tells n t did y
+      tells : ℕ → Pairs → List (MapCall Words Words) → Note → Type 0
+      tells n' t' did y = Takes kw vw op L c k v d x n' t' did y × (AreTyped key value t' → AreTyped key value (state_by (next op L) t' did))
 
-        l : i < places L
-        l = near L law k d
+      Outcome : ℕ → Type 0
+      Outcome z = (did : List (MapCall Words Words)) × (y : Note) × All (permits L owning r) did × fits kw vw L owning (slice_set ws w z) (state_by (next op L) t did) (set notes r y) × tells n t did y
 
-        ok : PlaceOk kw vw L owning ws t notes i (get_or f.cells i free)
-        ok = f.each i l
+      l : i < places L
+      l = near L law k d
 
-        knew : AllSay L owning t f.cells r (at_free kw vw op L k d b)
-        knew = subst (AllSay L owning t f.cells r) at_claims (f.noted r x is)
+      ok : PlaceOk kw vw L owning ws t notes i (get_or f.cells i free)
+      ok = f.each i l
 
-        no_grip : (j : ℕ) (lo : Lock) (a : Words) (old : Before) (u : Words) (g : ℕ) (F : Type 0) → Has (grips j lo a old u g) x.claims → F
-        no_grip j lo a old u g F h = none_here (subst (Has (grips j lo a old u g)) at_claims h)
-          where
-            none_here : Has (grips j lo a old u g) (at_free kw vw op L k d b) → F
-            none_here h' = ⊎_elim (λ z. absurd cc) (λ h''. ⊎_elim (λ z. absurd cc) (λ h'''. ⊎_elim (λ z. absurd cc) (λ z. absurd z) h''') h'') h'
+      knew : AllSay L owning t f.cells r (facing L k d b)
+      knew = subst (AllSay L owning t f.cells r) at_claims (f.noted r x is)
 
-        same_at : (claims : List Claim) → ((j : ℕ) → reads_all j claims ≡ 0) → (j : ℕ) → SameAt j x (with_claims x claims)
-        same_at claims none_read j = (none_read j ∙ sym (ap (reads_all j) at_claims), λ lo a old u g h. no_grip j lo a old u g _ h)
+      most : used (get_or f.cells i free) + b ≤ length t
+      most = knew.1.0
 
-        lost : n ≢ 0 → Outcome n
-        lost miss = gets L law kw vw op owning r x w tells ws t notes f (with_claims x (walking kw vw op L k d (suc b))) [] is (same_at (walking kw vw op L k d (suc b)) (λ _. refl))
-            (knew.0, (knew.1.0, ((let one : used (get_or f.cells i free) ≡ 1 = in_use_there (get_or f.cells i free) (sym ok.shows) in let h : used (get_or f.cells i free) + b ≤ length t = knew.1.1.0 in omega arith), tt)))
-            (λ _. refl) (All-nil (permits L owning r)) refl ((λ hit. absurd (miss hit)), λ _. (refl, refl))
-          where
-            in_use_there : (c : Cell) → control L (readers i notes) c ≡ n → used c ≡ 1
-            in_use_there free e = absurd (miss (sym e))
-            in_use_there (kept o) e = refl
-            in_use_there (busy lo q o old u g) e = refl
+      new : value_at k t ≡ None
+      new = knew.1.1.0.1
 
-        won : n ≡ 0 → (a : Cell) → get_or f.cells i free ≡ a → Outcome m
-        won hit (kept o) e = let g : n ≡ 2 + home L o * 256 + readers i notes * 65536 = ok.shows ∙ ap (control L (readers i notes)) e in absurd (omega arith)
-        won hit (busy shown q o old u a) e = let g : n ≡ 2 + home L o * 256 = ok.shows ∙ ap (control L (readers i notes)) e in absurd (omega arith)
-        won hit (busy reserved q o old u a) e = let g : n ≡ 1 + home L o * 256 = ok.shows ∙ ap (control L (readers i notes)) e in absurd (omega arith)
-        won hit (busy held q o old u a) e = let g : n ≡ 3 + home L o * 256 = ok.shows ∙ ap (control L (readers i notes)) e in absurd (omega arith)
-        won hit free e =
-            let hollow : used (get_or f.cells i free) ≡ 0 = ap used e in
-            let new : value_at k t ≡ None = absent_behind L law kw vw owning ws t notes f k d knew.1.0 hollow in
-            let less = less_where_free owning ws t notes f i l hollow in
-            let says : next op L t call ≡ (New, with_pair k v t) = ⊎_elim
-            (λ (z : call ≡ Insert k v). ap (next op L t) z ∙ new_stored (places L) k v (λ old. v) t new (λ same. omega arith))
-            (λ (z : call ≡ Merge k v). ap (next op L t) z ∙ new_stored (places L) k v (λ old. op old v) t new (λ same. omega arith)) which in
-            let st : Stores k v t (with_pair k v t) 1 = pair_stores k v t new in
-            let c : Cell = busy shown r k Nothing v 0 in
-            let y : Note = with_claims x (grips i shown k Nothing v 0 ∷ []) in
-            let us : List ℕ = set ws w m in
-            let room : length f.cells ≡ places L = f.room in
-            let none_reads : readers i (set notes r y) ≡ 0 = readers_stay notes r i x y is (same_at (grips i shown k Nothing v 0 ∷ []) (λ _. refl) i) ∙ subst (MayBeRead kw vw L (readers i notes)) e ok.read in
-            let not_there : (j : ℕ) (q : Words) → key_of (get_or f.cells j free) ≡ some q → q ≢ k = λ j q g z. let h = has_value owning ws t notes f j q g in none-some h.0 (sym new ∙ (ap (λ (a : Words). value_at a t) (sym z) ∙ h.1)) in
-            let fit : Fits kw vw L owning us (with_pair k v t) (set notes r y) = changes kw vw L owning ws us t (with_pair k v t) notes f r x y i c is
-            (λ j _. same_at (grips i shown k Nothing v 0 ∷ []) (λ _. refl) j) l (length-set ws w m) (same_words ws i 0 w m (omega arith) refl)
-            (record {
-              shows = that_word owning ws t notes f i 0 w m l (omega arith) refl;
-              read = none_reads;
-              content = ((long_k, long_v, st.there), (λ g lt. absurd (omega arith)), omega arith, tt, (refl, mine'), record { note = y; there = set_here notes r y x is; says = inl refl });
-            })
-            (λ j q ne g. st.others q (not_there j q g))
-            (let more = st.keys in omega arith)
-            (omega arith)
-            (λ q u _ g. absurd (some-ne-none q (sym g ∙ ap key_of e)))
-            (λ j q g g'. absurd (not_there j q g' (sym (some-injective k q g))))
-            (λ q u g. ⊎_elim
-            (λ (z : q ≡ k). inl (subst (Placed kw vw L (set f.cells i c)) (sym z) (record {
-              d = d;
-              within = short;
-              there = ap key_of (here kw vw L f.cells i c (omega arith));
-              before = λ a lt. carry kw vw L f.cells i c (omega arith) (path L k a) (λ s. used s ≡ 1) (λ s. used s ≡ 1) (λ _ _. refl) (λ _ s. s) (bars_used k (get_or f.cells (path L k a) free) (knew.1.0 a lt));
-            })))
-            (λ ne. inr (f.placed q u (sym (st.others q ne) ∙ g))) (same_or_not q k))
-            (λ q u a ne at_q h. subst (λ (s : Cell). Stays kw vw L q i t (with_pair k v t) s c a) (sym e) (new_stays i r q t f.cells k v c refl mine' ne new st a h))
-            (here kw vw L f.cells i c (omega arith), tt) (λ _. omega arith) in (
-              call ∷ [],
-              y,
-              All-cons (permits L owning r) call [] may (All-nil (permits L owning r)),
-              subst (λ (s : Pairs). Fits kw vw L owning us s (set notes r y)) (λ j. (sym says j).1) fit,
-              ((λ _. ((refl, (λ j. (says j).0), refl), (let h : used (get_or f.cells i free) + b ≤ length t = knew.1.1.0 in omega arith))), λ miss. absurd (miss hit)),
-            )
+      no_grip : (j : ℕ) (lo : Lock) (a : Words) (old : Before) (u : Words) (g : ℕ) → Has (grips j lo a old u g) x.claims → ⊥
+      no_grip j lo a old u g h = none_grips j lo a old u g (facing L k d b) (tt, (tt, (tt, tt))) (subst (Has (grips j lo a old u g)) at_claims h)
+
+      same_at : (claims : List Claim) → ((j : ℕ) → reads_all j claims ≡ 0) → (j : ℕ) → SameAt j x (with_claims x claims)
+      same_at claims none_read j = (none_read j ∙ sym (ap (reads_all j) at_claims), λ lo a old u g h. absurd (no_grip j lo a old u g h))
+
+      not_there : (j : ℕ) (q : Words) → key_of (get_or f.cells j free) ≡ some q → q ≢ k
+      not_there j q g z = let h = has_value kw vw L law owning ws t notes f j q g in none-some h.0 (sym new ∙ (ap (λ (a : Words). value_at a t) (sym z) ∙ h.1))
+
+      -- another rank has the place: its key is another
+      beaten : n ≢ 0 → (o : Words) → key_of (get_or f.cells i free) ≡ some o → Outcome n
+      beaten miss o e = let one = in_use (get_or f.cells i free) o e in let h = most in
+          gets L law kw vw op owning r x w tells ws t notes f (with_claims x (heading true k (suc d) (suc b))) [] is (same_at (heading true k (suc d) (suc b)) (λ _. refl))
+          (passed_more L law owning t f.cells r k d knew.0 (bars_key k o (get_or f.cells i free) e (not_there i o e)), (omega arith, (knew.1.1.0, tt)))
+          (λ _. refl) (All-nil (permits L owning r)) refl (record { many = omega arith; won = λ hit. absurd (miss hit); lost = λ _. (refl, refl) }, λ z. z)
+
+      lost : n ≢ 0 → (a : Cell) → get_or f.cells i free ≡ a → Outcome n
+      lost miss free e = absurd (miss (ok.shows ∙ ap (control L (readers i notes)) e))
+      lost miss (kept o) e = beaten miss o (ap key_of e)
+      lost miss (busy lo q o old u g) e = beaten miss o (ap key_of e)
+
+      won : n ≡ 0 → (a : Cell) → get_or f.cells i free ≡ a → Outcome m
+      won hit (kept o) e = let g : n ≡ 2 + home L o * 256 + readers i notes * 65536 = ok.shows ∙ ap (control L (readers i notes)) e in absurd (omega arith)
+      won hit (busy shown q o old u a) e = let g : n ≡ 2 + home L o * 256 = ok.shows ∙ ap (control L (readers i notes)) e in absurd (omega arith)
+      won hit (busy reserved q o old u a) e = let g : n ≡ 1 + home L o * 256 = ok.shows ∙ ap (control L (readers i notes)) e in absurd (omega arith)
+      won hit (busy held q o old u a) e = let g : n ≡ 3 + home L o * 256 = ok.shows ∙ ap (control L (readers i notes)) e in absurd (omega arith)
+      won hit free e =
+          let hollow : used (get_or f.cells i free) ≡ 0 = ap used e in
+          let less = less_where_free kw vw L law owning ws t notes f i l hollow in
+          let says : next op L t c ≡ (New, with_pair k v t) = ⊎_elim
+          (λ (z : c ≡ Insert k v). ap (next op L t) z ∙ new_stored (places L) k v (λ old. v) t new (λ same. omega arith))
+          (λ (z : c ≡ Merge k v). ap (next op L t) z ∙ new_stored (places L) k v (λ old. op old v) t new (λ same. omega arith)) stores in
+          let st : HasStored k v t (with_pair k v t) 1 = pair_stores k v t new in
+          let a : Cell = busy shown r k Nothing v 0 in
+          let claims : List Claim = writing L k d Nothing v 0 in
+          let y : Note = with_claims x claims in
+          let us : List ℕ = set ws w m in
+          let room : length f.cells ≡ places L = f.room in
+          let unread : readers i (set notes r y) ≡ 0 = readers_stay notes r i x y is (same_at claims (λ _. refl) i) ∙ subst (MayBeRead kw vw L (readers i notes)) e ok.read in
+          let fit : Fits kw vw L owning us (with_pair k v t) (set notes r y) = changes kw vw L owning ws us t (with_pair k v t) notes f r x y i a is
+          (λ j _. same_at claims (λ _. refl) j) l (length-set ws w m) (same_words kw vw L law ws i 0 w m (omega arith) refl)
+          (record {
+            shows = that_word kw vw L law owning ws t notes f i 0 w m l (omega arith) refl;
+            read = unread;
+            content = ((long_k, long_v, st.there), (λ g lt. absurd (omega arith)), omega arith, tt, (refl, own), record { note = y; there = set_here notes r y x is; says = inl refl });
+          })
+          (λ j q ne g. st.others q (not_there j q g))
+          (let more = st.keys in omega arith)
+          (omega arith)
+          (λ q u _ g. absurd (some-ne-none q (sym g ∙ ap key_of e)))
+          (λ j q g g'. absurd (not_there j q g' (sym (some-injective k q g))))
+          (λ q u g. ⊎_elim
+          (λ (z : q ≡ k). inl (subst (Placed kw vw L (set f.cells i a)) (sym z) (record {
+            d = d;
+            within = short;
+            there = ap key_of (here kw vw L f.cells i a (omega arith));
+            before = λ s lt. carry kw vw L f.cells i a (omega arith) (path L k s) (λ z. used z ≡ 1) (λ z. used z ≡ 1) (λ _ _. refl) (λ _ z. z) (bars_used k (get_or f.cells (path L k s) free) (knew.0 s lt));
+          })))
+          (λ ne. inr (f.placed q u (sym (st.others q ne) ∙ g))) (same_or_not q k))
+          (λ q u s ne at_q h. subst (λ (z : Cell). Stays kw vw L q i t (with_pair k v t) z a s) (sym e) (new_stays kw vw L law i r q t f.cells k v a refl own ne new st s h))
+          (here kw vw L f.cells i a (omega arith), tt) (λ _. omega arith) in
+          let after : with_pair k v t ≡ state_by (next op L) t (c ∷ []) = λ j. (sym says j).1 in (
+            c ∷ [],
+            y,
+            All-cons (permits L owning r) c [] may (All-nil (permits L owning r)),
+            subst (λ (s : Pairs). Fits kw vw L owning us s (set notes r y)) after fit,
+            (
+              record { many = (let h = most in omega arith); won = λ _. (refl, (λ j. (says j).0), refl); lost = λ miss. absurd (miss hit) },
+              λ typed. subst (AreTyped key value) after (typed_stored key value k v t (with_pair k v t) 1 st typed_k typed_v typed),
+            ),
+          )
+
+  -- the exchange of FREE to READY
+  pub take_step : (w n : ℕ) (x : Note) → d < places L → IsWords kw k → IsWords vw v → key k ≡ true → value v ≡ true → x.claims ≡ facing L k d (least x.claims) → w ≡ size kw vw * path L k d + 0 → n ≡ ready kw vw op L k
+      → Moves (next op) permits (Holds kw vw key value) L owning r x w (λ z. if z == 0 then n else z) (Takes kw vw op L c k v d x)
+  take_step w n x short long_k long_v typed_k typed_v at_claims at_word is_ready =
+      subst (λ (z : ℕ × ℕ). Moves (next op) permits (Holds kw vw key value) L owning r x z.0 (λ s. if s == 0 then z.1 else s) (Takes kw vw op L c k v d x)) (λ j. (sym at_word j, sym is_ready j))
+      (holds_step kw vw key value op L owning r x _ (λ z. if z == 0 then ready kw vw op L k else z) (Takes kw vw op L c k v d x) (takes_free x short long_k long_v typed_k typed_v at_claims))

@@ -4,8 +4,11 @@ pub mod Notes
 pub mod Fits
 pub mod Steps
 pub mod Finds
+pub mod Inserts
 pub mod Ranks
 pub mod Parts
 pub mod Calls
+pub mod Costs
+pub mod Reaches
 pub mod Looks
 pub mod Closed

@@ -10,7 +10,7 @@ use crate::note::{Note, Words};
 use crate::shape::Shape;
 use atomic_table::TableRule;
 use bcl_event::{MapCall, MapReply};
-use bcl_phase::{Find, Grants, Phased, Promise, View};
+use bcl_phase::{Find, Grants, Own, Phased, Promise, View};
 use bcl_segment::Rule;
 use bcl_words::{MergeLaw, Object};
 use std::collections::LinkedList;
@@ -98,6 +98,8 @@ impl<K: Object, V: Object, L: MergeLaw<V>> Buckets for Map<K, V, L> {
 
 impl<K: Object, V: Object, L: MergeLaw<V>> Grants<Find> for Map<K, V, L> {}
 
+impl<K: Object, V: Object, L: MergeLaw<V>> Grants<Own> for Map<K, V, L> {}
+
 /// The map's calls are proved under this promise, so that a phase may run under it.
 pub trait MapGrants<P: Promise>: Grants<P>
     + Buckets
@@ -117,6 +119,14 @@ pub trait MapGrants<P: Promise>: Grants<P>
 }
 
 impl<K: Object, V: Object, L: MergeLaw<V>> MapGrants<Find> for Map<K, V, L> {
+    ghost use Rattle.std.specs.Prelude.{refl};
+
+    ghost at_rest = { refl };
+
+    ghost idles = { λ x rests. rests };
+}
+
+impl<K: Object, V: Object, L: MergeLaw<V>> MapGrants<Own> for Map<K, V, L> {
     ghost use Rattle.std.specs.Prelude.{refl};
 
     ghost at_rest = { refl };

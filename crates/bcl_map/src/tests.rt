@@ -12,6 +12,8 @@ use bcl_words::{Bytes64, MergeLaw, Object, Pair};
 use std::alloc::Global;
 use std::test::Fail;
 
+mod own;
+
 // Two numbers of two words become 0.
 struct Nought;
 

@@ -1,0 +1,25 @@
+use Rattle.std.proofs.Common.{◌≡◌, ℕ, suc, ◌+◌, inl, refl, sym, ◌∙◌, subst, arith}
+use Rattle.bcl_event.specs.declared.map.MapCall.TheVariants.{Insert}
+use Rattle.bcl_phase.specs.Rule.{Moves}
+use Rattle.bcl_phase.specs.Parts.{lead_key, lead_heads, lead_layout, lead_word, pass_view}
+use Rattle.bcl_map.specs.Map.{path, next, permits}
+use Rattle.bcl_map.specs.Fits.{Holds}
+use Rattle.bcl_map.specs.Inserts.{heading, least, SeesAgain}
+use Rattle.bcl_map.proofs.Looks.{lawful, word_is}
+use Rattle.bcl_map.proofs.Sees.{again_step}
+use Rattle.bcl_map.proofs.Reached.{meets_again_by}
+use Rattle.bcl_map.proofs.insert.see_again.Goals as goal
+
+pub get-requires-clause-step : goal.get-requires-clause-step
+get-requires-clause-step g c = let lead = c.args.lead.now in let L = lead_key lead in let v = pass_view c.args.pass.now in let k = c.args.key.now in let d = c.args.number in let value = c.args.value.now in
+    let kw = g.K.Object.WORDS in let vw = g.V.Object.WORDS in let op = g.L.MergeLaw.op in let next_one : d + 1 ≡ suc d = omega arith in
+    subst (λ (p : ℕ). Moves (next op) permits (Holds kw vw g.K.Object.passes g.V.Object.passes) L p v.rank v.note (lead_word lead c.word.result) (λ n. n) (SeesAgain kw vw op L (Insert k value) k d v.note)) (sym c.args.pass.now.pass.1)
+    (again_step kw vw g.K.Object.passes g.V.Object.passes op L (lawful kw vw (lead_heads lead) (lead_layout lead) L c.requires.shape) v.rank (Insert k value) k value d c.requires.mine c.requires.mine (inl refl) _ v.note
+    (c.requires.heading ∙ (λ i. heading (c.requires.strayed i) k (next_one i) (least v.note.claims)))
+    (word_is kw vw (lead_heads lead) (lead_layout lead) L c.requires.shape c.args.at (path L k d) 0 c.word.result c.requires.at c.word.ensures.spot))
+
+pub returns-clause-some : goal.returns-clause-some
+returns-clause-some g c = (meets_again_by g.L.MergeLaw.op (lead_key c.args.lead.now) g.K.Object.WORDS g.V.Object.WORDS (Insert c.args.key.now c.args.value.now) c.args.key.now c.args.number (pass_view c.args.pass.now) (pass_view c.get.new.self) c.get.result c.get.ensures.took c.requires.strayed c.get.ensures.told).0
+
+pub returns-clause-used : goal.returns-clause-used
+returns-clause-used g c = (meets_again_by g.L.MergeLaw.op (lead_key c.args.lead.now) g.K.Object.WORDS g.V.Object.WORDS (Insert c.args.key.now c.args.value.now) c.args.key.now c.args.number (pass_view c.args.pass.now) (pass_view c.get.new.self) c.get.result c.get.ensures.took c.requires.strayed c.get.ensures.told).1

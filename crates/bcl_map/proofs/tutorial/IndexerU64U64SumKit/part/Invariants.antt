@@ -1,0 +1,11 @@
+use Rattle.std.proofs.Common.{◌≡◌}
+use Rattle.bcl_map.specs.Parts.{pass_view, IsOf}
+use Rattle.bcl_map.proofs.tutorial.IndexerU64U64SumKit.part.Given as goal
+
+abbrev pub invariant-loop-key : goal.invariant-loop-key
+invariant-loop-key l = record {
+  lead : l.self.lead ≡ l.fn.self.lead;
+  of : IsOf l.self.pass l.self.lead.now;
+  rank : (pass_view l.self.pass).rank ≡ (pass_view l.fn.self.pass).rank;
+  place : l.place ≡ l.key-index;
+}

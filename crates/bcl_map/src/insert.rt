@@ -1,0 +1,327 @@
+//! An insertion of a key whose home is the pass's rank: one exchange at each free bucket that it meets, until one is won.
+//!
+//! No other rank inserts the key meanwhile. Another rank may take a bucket of its path that was met free.
+
+ghost use Rattle.std.specs.Prelude.{◌≡◌, ◌≢◌, ◌+◌, ◌*◌, ◌↔◌, ◌^◌, ◌<◌, ◌≤◌, [], true, false, Some};
+ghost use Rattle.bcl_words.specs.Words.{Fits, IsWords};
+ghost use Rattle.bcl_event.specs.declared.map.MapCall.TheVariants.{Insert};
+ghost use Rattle.bcl_event.specs.declared.map.MapReply.TheVariants.{New, Replaced};
+ghost use Rattle.bcl_phase.specs.Parts.{lead_key, lead_layout, lead_heads, pass_view, IsOf};
+ghost use Rattle.bcl_phase.specs.Stands.{Still};
+ghost use Rattle.bcl_map.specs.declared.note.Before.TheVariants.{Nothing, Value as before};
+ghost use Rattle.bcl_map.specs.declared.insert.Inserted.TheVariants.{New as was_new};
+ghost use Rattle.bcl_map.specs.Map as map;
+ghost use Rattle.bcl_map.specs.Map.{places, path, size, tag, IsShaped};
+ghost use Rattle.bcl_map.specs.Finds.{reading, value_of};
+ghost use Rattle.bcl_map.specs.Calls.{IsBucketAt};
+ghost use Rattle.bcl_map.specs.Inserts.{writing, strays, old_of};
+ghost use Rattle.bcl_map.specs.Reaches.{KnowsOwn, Comes, Ends, IsHeading, IsMatching, IsFacing, IsPast, Meets, Inserts, words_put};
+
+use crate::look::word;
+use crate::map::Map;
+use bcl_phase::{Lead, Own, Pass};
+use bcl_segment::GlobalPtr;
+use bcl_words::{MergeLaw, Object};
+use std::marker::Brand;
+
+/// How a value was stored for a key.
+#[derive(Clone, Copy, Debug, PartialEq, Eq)]
+pub enum Inserted {
+    /// The key is new.
+    New,
+    /// The key was there, and has the new value.
+    Replaced,
+    /// The key isn't there, and each bucket is in use by another one.
+    Full,
+}
+
+/// The control word of the bucket with this number on the path of a key.
+#[inline]
+fn see<K: Object, V: Object, L: MergeLaw<V>>(
+    pass: &mut Pass<Map<K, V, L>, Own>,
+    lead: &Lead<Map<K, V, L>>,
+    at: GlobalPtr,
+    key: &[u64; 8],
+    value: &[u64; 8],
+    number: u32,
+) -> u64
+    requires key { Fits K.WORDS }
+    requires value { Fits V.WORDS }
+    requires of { IsOf pass.old lead.now }
+    requires shape { IsShaped K.WORDS V.WORDS (lead_heads lead.now) (lead_layout lead.now) (lead_key lead.now) }
+    requires at { IsBucketAt (size K.WORDS V.WORDS) (lead_layout lead.now) at (path (lead_key lead.now) key.now number) }
+    requires mine { map.home (lead_key lead.now) key.now ≡ (pass_view pass.old).rank }
+    requires heading { IsHeading key.now number (pass_view pass.old) }
+    ensures free { result ≡ 0 → Comes L.op (lead_key lead.now) (pass_view pass.old) (pass_view pass.new) × IsFacing L.op (lead_key lead.now) key.now number (pass_view pass.new) }
+    ensures used { result ≢ 0 → Meets L.op (lead_key lead.now) (Insert key.now value.now) key.now number result (pass_view pass.old) (pass_view pass.new) }
+    ensures of { IsOf pass.new lead.now }
+    ensures gets { (pass_view pass.new).gets ≡ (pass_view pass.old).gets + 1 }
+    ensures puts { (pass_view pass.new).puts ≡ (pass_view pass.old).puts }
+    ensures atomics { (pass_view pass.new).atomics ≡ (pass_view pass.old).atomics }
+{
+    pass.get::<Brand, ([u64; 8], [u64; 8], u32)>(lead, word(at, 0), &(*key, *value, number))
+}
+
+/// The control word of a bucket that another rank has taken meanwhile.
+#[inline]
+fn see_again<K: Object, V: Object, L: MergeLaw<V>>(
+    pass: &mut Pass<Map<K, V, L>, Own>,
+    lead: &Lead<Map<K, V, L>>,
+    at: GlobalPtr,
+    key: &[u64; 8],
+    value: &[u64; 8],
+    number: u32,
+) -> u64
+    requires key { Fits K.WORDS }
+    requires value { Fits V.WORDS }
+    requires of { IsOf pass.old lead.now }
+    requires shape { IsShaped K.WORDS V.WORDS (lead_heads lead.now) (lead_layout lead.now) (lead_key lead.now) }
+    requires at { IsBucketAt (size K.WORDS V.WORDS) (lead_layout lead.now) at (path (lead_key lead.now) key.now number) }
+    requires mine { map.home (lead_key lead.now) key.now ≡ (pass_view pass.old).rank }
+    requires heading { IsHeading key.now (number + 1) (pass_view pass.old) }
+    requires strayed { strays (pass_view pass.old).note.claims ≡ true }
+    ensures some { result ≢ 0 }
+    ensures used { Meets L.op (lead_key lead.now) (Insert key.now value.now) key.now number result (pass_view pass.old) (pass_view pass.new) }
+    ensures of { IsOf pass.new lead.now }
+    ensures gets { (pass_view pass.new).gets ≡ (pass_view pass.old).gets + 1 }
+    ensures puts { (pass_view pass.new).puts ≡ (pass_view pass.old).puts }
+    ensures atomics { (pass_view pass.new).atomics ≡ (pass_view pass.old).atomics }
+{
+    pass.get::<Brand, ([u64; 8], [u64; 8], u32)>(lead, word(at, 0), &(*key, *value, number))
+}
+
+/// The exchange of a bucket that was met free, to READY: whether it was won.
+#[inline]
+fn take<K: Object, V: Object, L: MergeLaw<V>>(
+    pass: &mut Pass<Map<K, V, L>, Own>,
+    lead: &Lead<Map<K, V, L>>,
+    at: GlobalPtr,
+    key: &[u64; 8],
+    value: &[u64; 8],
+    number: u32,
+    home: u32,
+) -> bool
+    requires key { Fits K.WORDS }
+    requires value { Fits V.WORDS }
+    requires words { IsWords K.WORDS key.now × (K.passes key.now ≡ true) }
+    requires value_words { IsWords V.WORDS value.now × (V.passes value.now ≡ true) }
+    requires of { IsOf pass.old lead.now }
+    requires shape { IsShaped K.WORDS V.WORDS (lead_heads lead.now) (lead_layout lead.now) (lead_key lead.now) }
+    requires at { IsBucketAt (size K.WORDS V.WORDS) (lead_layout lead.now) at (path (lead_key lead.now) key.now number) }
+    requires number { number < places (lead_key lead.now) }
+    requires mine { map.home (lead_key lead.now) key.now ≡ (pass_view pass.old).rank }
+    requires home { home ≡ map.home (lead_key lead.now) key.now }
+    requires facing { IsFacing L.op (lead_key lead.now) key.now number (pass_view pass.old) }
+    requires own { KnowsOwn (pass_view pass.old) }
+    ensures won { result ≡ true → Ends L.op (lead_key lead.now) (Insert key.now value.now) New (pass_view pass.old) (pass_view pass.new) × ((pass_view pass.new).note.claims ≡ writing (lead_key lead.now) key.now number Nothing value.now 0) }
+    ensures lost { result ≡ false → Comes L.op (lead_key lead.now) (pass_view pass.old) (pass_view pass.new) × IsHeading key.now (number + 1) (pass_view pass.new) × (strays (pass_view pass.new).note.claims ≡ true) }
+    ensures of { IsOf pass.new lead.now }
+    ensures gets { (pass_view pass.new).gets ≡ (pass_view pass.old).gets }
+    ensures puts { (pass_view pass.new).puts ≡ (pass_view pass.old).puts }
+    ensures atomics { (pass_view pass.new).atomics ≡ (pass_view pass.old).atomics + 1 }
+{
+    pass.cas::<Brand, ([u64; 8], [u64; 8], u32)>(
+        lead,
+        word(at, 0),
+        0,
+        2 + u64::from(home) * 256,
+        &(*key, *value, number),
+    )
+    .is_ok()
+}
+
+/// Whether the key of a bucket, whose home is this rank, is this one: a get of each of its words, up to the first that
+/// differs. There the bucket is passed.
+#[inline]
+fn has_key<K: Object, V: Object, L: MergeLaw<V>>(
+    pass: &mut Pass<Map<K, V, L>, Own>,
+    lead: &Lead<Map<K, V, L>>,
+    at: GlobalPtr,
+    key: &[u64; 8],
+    value: &[u64; 8],
+    number: u32,
+) -> bool
+    requires key { Fits K.WORDS }
+    requires value { Fits V.WORDS }
+    requires words { IsWords K.WORDS key.now }
+    requires of { IsOf pass.old lead.now }
+    requires shape { IsShaped K.WORDS V.WORDS (lead_heads lead.now) (lead_layout lead.now) (lead_key lead.now) }
+    requires at { IsBucketAt (size K.WORDS V.WORDS) (lead_layout lead.now) at (path (lead_key lead.now) key.now number) }
+    requires mine { map.home (lead_key lead.now) key.now ≡ (pass_view pass.old).rank }
+    requires matching { IsMatching key.now number 0 (pass_view pass.old) }
+    requires own { KnowsOwn (pass_view pass.old) }
+    ensures same { result ≡ true → Comes L.op (lead_key lead.now) (pass_view pass.old) (pass_view pass.new) × ((pass_view pass.new).note.claims ≡ reading key.now number (value_of (pass_view pass.new).note.claims)) }
+    ensures other { result ≡ false → IsPast L.op (lead_key lead.now) (Insert key.now value.now) key.now number (pass_view pass.old) (pass_view pass.new) }
+    ensures of { IsOf pass.new lead.now }
+    ensures gets { (pass_view pass.new).gets ≤ (pass_view pass.old).gets + K.WORDS }
+    ensures rise { (pass_view pass.old).gets ≤ (pass_view pass.new).gets }
+    ensures puts { (pass_view pass.new).puts ≡ (pass_view pass.old).puts }
+    ensures atomics { (pass_view pass.new).atomics ≡ (pass_view pass.old).atomics }
+{
+    for j in 0..K::WORDS {
+        let found = pass.get::<Brand, ([u64; 8], [u64; 8], u32, usize)>(
+            lead,
+            word(at, 1 + j),
+            &(*key, *value, number, j),
+        );
+        if found != key[j] {
+            return false;
+        }
+    }
+    true
+}
+
+/// Puts the words of the value from the word `first` on: the last ones of a bucket that this rank writes.
+#[inline]
+fn put_value<K: Object, V: Object, L: MergeLaw<V>>(
+    pass: &mut Pass<Map<K, V, L>, Own>,
+    lead: &Lead<Map<K, V, L>>,
+    at: GlobalPtr,
+    key: &[u64; 8],
+    value: &[u64; 8],
+    number: u32,
+    first: usize,
+)
+    requires key { Fits K.WORDS }
+    requires value { Fits V.WORDS }
+    requires words { IsWords K.WORDS key.now }
+    requires of { IsOf pass.old lead.now }
+    requires shape { IsShaped K.WORDS V.WORDS (lead_heads lead.now) (lead_layout lead.now) (lead_key lead.now) }
+    requires at { IsBucketAt (size K.WORDS V.WORDS) (lead_layout lead.now) at (path (lead_key lead.now) key.now number) }
+    requires first { first < V.WORDS }
+    requires writes { (pass_view pass.old).note.claims ≡ writing (lead_key lead.now) key.now number (old_of (pass_view pass.old).note.claims) value.now (K.WORDS + first) }
+    ensures still { Still (pass_view pass.old) (pass_view pass.new) }
+    ensures rest { (pass_view pass.new).note.claims ≡ [] }
+    ensures of { IsOf pass.new lead.now }
+    ensures gets { (pass_view pass.new).gets ≡ (pass_view pass.old).gets }
+    ensures puts { (pass_view pass.new).puts + first ≡ (pass_view pass.old).puts + V.WORDS }
+    ensures atomics { (pass_view pass.new).atomics ≡ (pass_view pass.old).atomics }
+{
+    for j in first..V::WORDS {
+        pass.put::<Brand, ([u64; 8], [u64; 8], u32, usize)>(
+            lead,
+            word(at, 1 + K::WORDS + j),
+            value[j],
+            &(*key, *value, number, K::WORDS + j),
+        );
+    }
+}
+
+/// Puts the words of the key and of the value into a bucket that this rank has taken.
+#[inline]
+fn put_pair<K: Object, V: Object, L: MergeLaw<V>>(
+    pass: &mut Pass<Map<K, V, L>, Own>,
+    lead: &Lead<Map<K, V, L>>,
+    at: GlobalPtr,
+    key: &[u64; 8],
+    value: &[u64; 8],
+    number: u32,
+)
+    requires key { Fits K.WORDS }
+    requires value { Fits V.WORDS }
+    requires words { IsWords K.WORDS key.now }
+    requires of { IsOf pass.old lead.now }
+    requires shape { IsShaped K.WORDS V.WORDS (lead_heads lead.now) (lead_layout lead.now) (lead_key lead.now) }
+    requires at { IsBucketAt (size K.WORDS V.WORDS) (lead_layout lead.now) at (path (lead_key lead.now) key.now number) }
+    requires writes { (pass_view pass.old).note.claims ≡ writing (lead_key lead.now) key.now number Nothing value.now 0 }
+    ensures still { Still (pass_view pass.old) (pass_view pass.new) }
+    ensures rest { (pass_view pass.new).note.claims ≡ [] }
+    ensures of { IsOf pass.new lead.now }
+    ensures gets { (pass_view pass.new).gets ≡ (pass_view pass.old).gets }
+    ensures puts { (pass_view pass.new).puts ≡ (pass_view pass.old).puts + (K.WORDS + V.WORDS) }
+    ensures atomics { (pass_view pass.new).atomics ≡ (pass_view pass.old).atomics }
+{
+    for j in 0..K::WORDS {
+        pass.put::<Brand, ([u64; 8], [u64; 8], u32, usize)>(
+            lead,
+            word(at, 1 + j),
+            key[j],
+            &(*key, *value, number, j),
+        );
+    }
+    put_value(pass, lead, at, key, value, number, 0);
+}
+
+/// Puts a new value into a bucket that has the key. The insertion takes place at the first put.
+#[inline]
+fn replace<K: Object, V: Object, L: MergeLaw<V>>(
+    pass: &mut Pass<Map<K, V, L>, Own>,
+    lead: &Lead<Map<K, V, L>>,
+    at: GlobalPtr,
+    key: &[u64; 8],
+    value: &[u64; 8],
+    number: u32,
+)
+    requires key { Fits K.WORDS }
+    requires value { Fits V.WORDS }
+    requires words { IsWords K.WORDS key.now × (K.passes key.now ≡ true) }
+    requires value_words { IsWords V.WORDS value.now × (V.passes value.now ≡ true) }
+    requires of { IsOf pass.old lead.now }
+    requires shape { IsShaped K.WORDS V.WORDS (lead_heads lead.now) (lead_layout lead.now) (lead_key lead.now) }
+    requires at { IsBucketAt (size K.WORDS V.WORDS) (lead_layout lead.now) at (path (lead_key lead.now) key.now number) }
+    requires mine { map.home (lead_key lead.now) key.now ≡ (pass_view pass.old).rank }
+    requires reads { (pass_view pass.old).note.claims ≡ reading key.now number (value_of (pass_view pass.old).note.claims) }
+    ensures ends { Ends L.op (lead_key lead.now) (Insert key.now value.now) Replaced (pass_view pass.old) (pass_view pass.new) }
+    ensures rest { (pass_view pass.new).note.claims ≡ [] }
+    ensures of { IsOf pass.new lead.now }
+    ensures gets { (pass_view pass.new).gets ≡ (pass_view pass.old).gets }
+    ensures puts { (pass_view pass.new).puts ≡ (pass_view pass.old).puts + V.WORDS }
+    ensures atomics { (pass_view pass.new).atomics ≡ (pass_view pass.old).atomics }
+{
+    pass.put::<Brand, ([u64; 8], [u64; 8], u32)>(
+        lead,
+        word(at, 1 + K::WORDS),
+        value[0],
+        &(*key, *value, number),
+    );
+    if V::WORDS > 1 {
+        put_value(pass, lead, at, key, value, number, 1);
+    }
+}
+
+/// Tries the bucket with this number on the path of a key, whose home is this rank; `last` where no more follow.
+///
+/// Behind each exchange that it loses there is a get, by which it goes on.
+#[inline]
+pub(crate) fn insert_at<K: Object, V: Object, L: MergeLaw<V>>(
+    pass: &mut Pass<Map<K, V, L>, Own>,
+    lead: &Lead<Map<K, V, L>>,
+    at: GlobalPtr,
+    key: &[u64; 8],
+    value: &[u64; 8],
+    number: u32,
+    home: u32,
+    last: bool,
+) -> Option<Inserted>
+    requires key { Fits K.WORDS }
+    requires value { Fits V.WORDS }
+    requires words { IsWords K.WORDS key.now × (K.passes key.now ≡ true) }
+    requires value_words { IsWords V.WORDS value.now × (V.passes value.now ≡ true) }
+    requires of { IsOf pass.old lead.now }
+    requires shape { IsShaped K.WORDS V.WORDS (lead_heads lead.now) (lead_layout lead.now) (lead_key lead.now) }
+    requires at { IsBucketAt (size K.WORDS V.WORDS) (lead_layout lead.now) at (path (lead_key lead.now) key.now number) }
+    requires number { number < places (lead_key lead.now) }
+    requires mine { map.home (lead_key lead.now) key.now ≡ (pass_view pass.old).rank }
+    requires home { home ≡ map.home (lead_key lead.now) key.now }
+    requires heading { IsHeading key.now number (pass_view pass.old) }
+    requires last { (last ≡ true) ↔ (places (lead_key lead.now) ≤ number + 1) }
+    ensures inserts { Inserts L.op (lead_key lead.now) key.now value.now number (pass_view pass.old) (pass_view pass.new) result }
+    ensures of { IsOf pass.new lead.now }
+    ensures gets { (pass_view pass.new).gets + (pass_view pass.old).atomics ≤ (pass_view pass.old).gets + (1 + K.WORDS) + (pass_view pass.new).atomics }
+    ensures again { result ≢ Some was_new → (pass_view pass.old).gets + 1 + (pass_view pass.new).atomics ≤ (pass_view pass.new).gets + (pass_view pass.old).atomics }
+    ensures puts { (pass_view pass.new).puts ≡ (pass_view pass.old).puts + words_put K.WORDS V.WORDS result }
+{
+    let mut control = see(pass, lead, at, key, value, number);
+    if control == 0 {
+        if take(pass, lead, at, key, value, number, home) {
+            put_pair(pass, lead, at, key, value, number);
+            return Some(Inserted::New);
+        }
+        control = see_again(pass, lead, at, key, value, number);
+    }
+    if control / 256 % 256 == u64::from(home) && has_key(pass, lead, at, key, value, number) {
+        replace(pass, lead, at, key, value, number);
+        return Some(Inserted::Replaced);
+    }
+    if last { Some(Inserted::Full) } else { None }
+}

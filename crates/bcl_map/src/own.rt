@@ -1,0 +1,109 @@
+//! The calls under Own: of keys whose home is the pass's rank.
+
+ghost use Rattle.std.specs.Prelude.{◌≡◌, ◌+◌, ◌*◌, ◌≤◌, ◌<◌, [], ◌∷◌};
+ghost use Rattle.bcl_words.specs.Words.{Fits};
+ghost use Rattle.bcl_event.specs.History.{event};
+ghost use Rattle.bcl_event.specs.declared.map.MapCall.TheVariants.{Find, Insert};
+ghost use Rattle.bcl_phase.specs.Parts as phase;
+ghost use Rattle.bcl_map.specs.Map.{places, home, IsShaped};
+ghost use Rattle.bcl_map.specs.Calls.{Stands, IsMine, reply};
+ghost use Rattle.bcl_map.specs.Costs.{taken};
+ghost use Rattle.bcl_map.specs.Reaches.{inserted, words_put_by, most_atomics};
+ghost use Rattle.bcl_map.specs.Parts.{lead_key, pass_view, IsOf};
+
+use crate::find::{find_key, next_bucket};
+use crate::insert::{Inserted, insert_at};
+use crate::lead::MapLead;
+use crate::map::Map;
+use crate::pass::MapPass;
+use bcl_bucket::start;
+use bcl_phase::{Lead, Own, Pass};
+use bcl_segment::GlobalPtr;
+use bcl_words::{MergeLaw, Object};
+
+/// Stores a value for a key, whose home is the pass's rank.
+#[inline]
+fn insert_key<K: Object, V: Object, L: MergeLaw<V>>(
+    pass: &mut Pass<Map<K, V, L>, Own>,
+    lead: &Lead<Map<K, V, L>>,
+    key: &K,
+    value: &V,
+) -> Inserted
+    requires key { Fits K.WORDS }
+    requires value { Fits V.WORDS }
+    requires of { phase.IsOf pass.old lead.now }
+    requires shape { IsShaped K.WORDS V.WORDS (phase.lead_heads lead.now) (phase.lead_layout lead.now) (phase.lead_key lead.now) }
+    requires mine { home (phase.lead_key lead.now) (K.words key.now) ≡ (phase.pass_view pass.old).rank }
+    requires rest { (phase.pass_view pass.old).note.claims ≡ [] }
+    ensures stands { Stands L.op (phase.lead_key lead.now) (phase.pass_view pass.old) (phase.pass_view pass.new) (event (phase.pass_view pass.old).rank (Insert (K.words key.now) (V.words value.now)) (inserted result) ∷ []) }
+    ensures rest { (phase.pass_view pass.new).note.claims ≡ [] }
+    ensures of { phase.IsOf pass.new lead.now }
+    ensures gets { (phase.pass_view pass.new).gets ≤ (phase.pass_view pass.old).gets + (places (phase.lead_key lead.now) * (1 + K.WORDS) + V.WORDS + taken (phase.pass_view pass.old) (phase.pass_view pass.new)) }
+    ensures puts { (phase.pass_view pass.new).puts ≡ (phase.pass_view pass.old).puts + words_put_by K.WORDS V.WORDS result }
+    ensures atomics { (phase.pass_view pass.new).atomics ≤ (phase.pass_view pass.old).atomics + most_atomics (taken (phase.pass_view pass.old) (phase.pass_view pass.new)) result }
+{
+    let layout = pass.layout();
+    let bucket = 1 + (K::WORDS + V::WORDS) as u32;
+    let per_rank = layout.per_rank / bucket;
+    let places = layout.ranks * per_rank;
+    let first = start(key, places);
+    let home = first / per_rank;
+    let words = key.to_words();
+    let value_words = value.to_words();
+    let mut at = GlobalPtr {
+        rank: home,
+        offset: (first - home * per_rank) * bucket,
+    };
+    for number in 0..places {
+        let last = number + 1 == places;
+        match insert_at(pass, lead, at, &words, &value_words, number, home, last) {
+            Some(inserted) => return inserted,
+            None => at = next_bucket(at, layout, bucket),
+        }
+    }
+    unreachable!()
+}
+
+impl<K: Object, V: Object, L: MergeLaw<V>> MapPass<Own, K, V, L> {
+    /// The value of a key. Gets alone: of the control words along the key's path, of the words of keys of the same home,
+    /// and of the value's words. The find takes place at the last. It never refuses.
+    ///
+    /// Condition: the key's home is this rank, as `is_mine` tells.
+    #[inline]
+    pub fn find(&mut self, lead: &MapLead<K, V, L>, key: &K) -> Option<V>
+        requires key { Fits K.WORDS }
+        requires value { Fits V.WORDS }
+        requires of { IsOf self.old lead.now }
+        requires mine { IsMine (pass_view self.old) (K.words key.now) }
+        ensures stands { Stands L.op (lead_key lead.now) (pass_view self.old) (pass_view self.new) (event (pass_view self.old).rank (Find (K.words key.now)) (reply V.words result) ∷ []) }
+        ensures of { IsOf self.new lead.now }
+        ensures gets { (pass_view self.new).gets ≤ (pass_view self.old).gets + (places (lead_key lead.now) * (1 + K.WORDS) + V.WORDS) }
+        ensures puts { (pass_view self.new).puts ≡ (pass_view self.old).puts }
+        ensures atomics { (pass_view self.new).atomics ≡ (pass_view self.old).atomics }
+    {
+        find_key(&mut self.pass, &lead.lead, key)
+    }
+
+    /// Stores a value for a key, in the place of its old one if it has one. It refuses for want of a bucket alone, where
+    /// each is in use by another key: `Full`.
+    ///
+    /// A new key costs one exchange for each free bucket that it meets, of which at most as many are lost as other ranks
+    /// inserted keys meanwhile; it takes place at the one that is won. A key that is there costs none, and takes place at
+    /// the first put of its new value. `Full` takes place at the last get of the key's path.
+    ///
+    /// Condition: the key's home is this rank, as `is_mine` tells.
+    #[inline]
+    pub fn insert(&mut self, lead: &MapLead<K, V, L>, key: &K, value: &V) -> Inserted
+        requires key { Fits K.WORDS }
+        requires value { Fits V.WORDS }
+        requires of { IsOf self.old lead.now }
+        requires mine { IsMine (pass_view self.old) (K.words key.now) }
+        ensures stands { Stands L.op (lead_key lead.now) (pass_view self.old) (pass_view self.new) (event (pass_view self.old).rank (Insert (K.words key.now) (V.words value.now)) (inserted result) ∷ []) }
+        ensures of { IsOf self.new lead.now }
+        ensures gets { (pass_view self.new).gets ≤ (pass_view self.old).gets + (places (lead_key lead.now) * (1 + K.WORDS) + V.WORDS + taken (pass_view self.old) (pass_view self.new)) }
+        ensures puts { (pass_view self.new).puts ≡ (pass_view self.old).puts + words_put_by K.WORDS V.WORDS result }
+        ensures atomics { (pass_view self.new).atomics ≤ (pass_view self.old).atomics + most_atomics (taken (pass_view self.old) (pass_view self.new)) result }
+    {
+        insert_key(&mut self.pass, &lead.lead, key, value)
+    }
+}

@@ -1,0 +1,173 @@
+//! The second program of docs/TUTORIAL.md: ranks index a list side by side, and keys are looked up in the index.
+
+ghost use Rattle.std.specs.Prelude.{◌≡◌, ◌+◌, ℕ, length, IfOk};
+ghost use mathlib.Core.Option.{some};
+ghost use lib.ListN.{get_elem?};
+ghost use Rattle.bcl_words.specs.Words.{Fits};
+ghost use Rattle.bcl_map.specs.Parts.{lead_layout, pass_view, IsOf};
+
+use crate::{Buckets, Inserted, Map, MapHome, MapLead, MapPass, Note, Shape};
+use bcl_merge::Sum;
+use bcl_phase::{Always, Find, Kit, Own, Phased, superstep_all};
+use bcl_words::{MergeLaw, Object};
+use std::alloc::{AllocError, Global};
+use std::marker::Sync;
+use std::test::Fail;
+use std::thread::Threads;
+
+/// One rank's part: it stores the place of each key of a list that is its own.
+#[derive(Drop)]
+pub(crate) struct Indexer<'a, K, V, L>
+where
+    Map<K, V, L>: Buckets + Phased<Note = Note, Key = Shape>,
+{
+    lead: &'a MapLead<K, V, L>,
+    pass: MapPass<Own, K, V, L>,
+    keys: &'a [K],
+    /// How many keys found no bucket.
+    pub(crate) full: u64,
+}
+
+impl<'a> Kit for Indexer<'a, u64, u64, Sum> {
+    ghost ready = { λ k. IsOf k.pass k.lead.now };
+
+    ghost step = { λ k l. (l.lead ≡ k.lead) × IsOf l.pass k.lead.now × ((pass_view l.pass).rank ≡ (pass_view k.pass).rank) };
+
+    fn rank(&self) -> u32 {
+        self.pass.rank()
+    }
+
+    fn part(&mut self) {
+        let mut place = 0;
+        for key in self.keys {
+            if self.pass.is_mine(key)
+                && self.pass.insert(self.lead, key, &place) == Inserted::Full
+            {
+                self.full = self.full.wrapping_add(1);
+            }
+            place += 1;
+        }
+    }
+}
+
+// Begins a phase under Own.
+pub(crate) fn begun<K: Object, V: Object, L: MergeLaw<V>>(
+    alloc: Global,
+    home: MapHome<K, V, L>,
+) -> Result<(MapLead<K, V, L>, Vec<MapPass<Own, K, V, L>>), Fail>
+    ensures all { IfOk result (λ r. length r.1.items ≡ (lead_layout r.0).ranks) }
+    ensures of { IfOk result (λ r. (i : ℕ) (p : _) → get_elem? r.1.items i ≡ some p → IsOf p r.0 × ((pass_view p).rank ≡ i)) }
+{
+    match home.begin::<Own>(alloc) {
+        Ok(begun) => Ok(begun),
+        Err(_) => Err(Fail::new("no memory")),
+    }
+}
+
+// The next phase, under Find.
+pub(crate) fn turned<K: Object, V: Object, L: MergeLaw<V>>(
+    alloc: Global,
+    lead: MapLead<K, V, L>,
+    passes: Vec<MapPass<Own, K, V, L>>,
+) -> Result<(MapLead<K, V, L>, Vec<MapPass<Find, K, V, L>>), Fail>
+    requires all { length passes.items ≡ (lead_layout lead).ranks }
+    requires of { (i : ℕ) (p : _) → get_elem? passes.items i ≡ some p → IsOf p lead × ((pass_view p).rank ≡ i) }
+    ensures all { IfOk result (λ r. length r.1.items ≡ (lead_layout r.0).ranks) }
+    ensures of { IfOk result (λ r. (i : ℕ) (p : _) → get_elem? r.1.items i ≡ some p → IsOf p r.0 × ((pass_view p).rank ≡ i)) }
+{
+    match lead.turn::<Own, Find>(alloc, passes) {
+        Ok(turned) => Ok(turned),
+        Err(_) => Err(Fail::new("no memory")),
+    }
+}
+
+// An indexer for each pass, the last rank first.
+pub(crate) fn indexers<'a>(
+    alloc: Global,
+    lead: &'a MapLead<u64, u64, Sum>,
+    mut passes: Vec<MapPass<Own, u64, u64, Sum>>,
+    keys: &'a [u64],
+) -> Result<Vec<Indexer<'a, u64, u64, Sum>>, AllocError>
+    requires passes { (i : ℕ) (p : _) → get_elem? passes.items i ≡ some p → IsOf p lead.now × ((pass_view p).rank ≡ i) }
+    ensures all { IfOk result (λ kits. length kits.items ≡ length passes.items) }
+    ensures kits { IfOk result (λ kits. (i : ℕ) (k : _) → get_elem? kits.items i ≡ some k → (k.lead.now ≡ lead.entry.now) × IsOf k.pass lead.entry.now × ((pass_view k.pass).rank + i + 1 ≡ length passes.items)) }
+{
+    let mut kits = Vec::new(alloc);
+    while let Some(pass) = passes.pop() {
+        kits.push(Indexer {
+            lead,
+            pass,
+            keys,
+            full: 0,
+        })?;
+    }
+    Ok(kits)
+}
+
+// The passes of these indexers, in the order of their ranks.
+pub(crate) fn passes_of(
+    alloc: Global,
+    lead: &MapLead<u64, u64, Sum>,
+    mut kits: Vec<Indexer<u64, u64, Sum>>,
+) -> Result<Vec<MapPass<Own, u64, u64, Sum>>, AllocError>
+    requires kits { (i : ℕ) (k : _) → get_elem? kits.items i ≡ some k → IsOf k.pass lead.now × ((pass_view k.pass).rank + i + 1 ≡ length kits.items) }
+    ensures all { IfOk result (λ passes. length passes.items ≡ length kits.entry.items) }
+    ensures passes { IfOk result (λ passes. (i : ℕ) (p : _) → get_elem? passes.items i ≡ some p → IsOf p lead.now × ((pass_view p).rank ≡ i)) }
+{
+    let mut passes = Vec::new(alloc);
+    while let Some(kit) = kits.pop() {
+        passes.push(kit.pass)?;
+    }
+    Ok(passes)
+}
+
+// How many pairs a map has.
+fn count_of<K: Object>(alloc: Global, home: MapHome<K, u64, Sum>) -> Result<usize, Fail>
+    requires key { Fits K.WORDS }
+{
+    match home.close(alloc) {
+        Ok(closed) => Ok(closed.entries().len()),
+        Err(_) => Err(Fail::new("no memory")),
+    }
+}
+
+// What an index of a list says of two keys, and how many keys it has.
+fn look_up<H: Threads + Sync>(
+    rt: &H,
+    alloc: Global,
+    keys: &[u64],
+    first: &u64,
+    second: &u64,
+) -> Result<([Option<u64>; 2], usize), Fail> {
+    // Four ranks with eight buckets each.
+    let home = MapHome::<u64, u64, Sum>::new(alloc, 4, 8)?;
+
+    // Each rank gets a pass, under the promise that it works on the keys whose home it is.
+    let (lead, passes) = begun(alloc, home)?;
+
+    // Each rank goes through the whole list, in a thread of its own.
+    let mut kits = indexers(alloc, &lead, passes, keys)?;
+    superstep_all(rt, &mut kits, &Always);
+
+    // No rank has a pass after this: it is the barrier.
+    let passes = passes_of(alloc, &lead, kits)?;
+    let (lead, mut passes) = turned(alloc, lead, passes)?;
+
+    // Under `Find` every rank may find every key, with plain loads.
+    let Some(mut pass) = passes.pop() else {
+        return Err(Fail::new("no pass"));
+    };
+    let found = [pass.find(&lead, first), pass.find(&lead, second)];
+    passes.push(pass)?;
+
+    // The home has seen the whole history. A closed map has its pairs.
+    let count = count_of(alloc, lead.end::<Find>(passes))?;
+    Ok((found, count))
+}
+
+#[test]
+fn places_are_stored_side_by_side(rt: HostRuntime) -> Result<(), Fail> {
+    let answer = look_up(&rt, rt.alloc(), &[20, 7, 20, 3], &20, &5)?;
+    assert_eq!(rt; answer, ([Some(2), None], 3));
+    Ok(())
+}

@@ -1,0 +1,105 @@
+//! The map of bcl_map.
+
+ghost use Rattle.std.specs.Prelude.{◌≡◌, ◌+◌, ◌*◌, ◌≤◌, ◌^◌, ℕ, length, IfOk};
+ghost use mathlib.Core.Option.{some};
+ghost use lib.ListN.{get_elem?};
+ghost use Rattle.bcl_words.specs.Words.{Fits};
+ghost use Rattle.bcl_map.specs.Parts.{lead_layout, pass_view, IsOf};
+
+use crate::find::{Finder, finders};
+use crate::insert::{Inserter, inserters, passes_of};
+use crate::job::{Job, Stage};
+use bcl_map::{MapHome, MapLead, MapPass};
+use bcl_merge::Sum;
+use bcl_phase::{Always, Find, Own, superstep_all};
+use bcl_words::{NoMemory, Object};
+use std::alloc::Global;
+use std::marker::Sync;
+use std::thread::Threads;
+
+/// How many pairs were dealt.
+fn dealt<K: Object>(kits: &[Inserter<K, u64, Sum>]) -> u64 {
+    let mut count = 0u64;
+    for kit in kits {
+        count = count.wrapping_add(kit.pairs.len() as u64);
+    }
+    count
+}
+
+/// How many keys were new.
+fn inserted<K: Object>(kits: &[Inserter<K, u64, Sum>]) -> u64 {
+    let mut count = 0u64;
+    for kit in kits {
+        count = count.wrapping_add(kit.new);
+    }
+    count
+}
+
+/// The sum of what the finders found.
+fn found<K: Object>(kits: &[Finder<K, u64, Sum>]) -> u64 {
+    let mut sum = 0u64;
+    for kit in kits {
+        sum = sum.wrapping_add(kit.sum);
+    }
+    sum
+}
+
+/// An empty map in a phase under Own.
+fn begun<K: Object>(
+    alloc: Global,
+    ranks: u32,
+    per_rank: u32,
+) -> Result<(MapLead<K, u64, Sum>, Vec<MapPass<Own, K, u64, Sum>>), NoMemory>
+    requires key { Fits K.WORDS }
+    requires ranks { (1 ≤ ranks) × (ranks ≤ 64) }
+    requires buckets { 1 ≤ per_rank }
+    requires words { ranks * per_rank * (1 + (K.WORDS + 1)) ≤ 2 ^ 27 }
+    ensures all { IfOk result (λ r. length r.1.items ≡ (lead_layout r.0).ranks) }
+    ensures of { IfOk result (λ r. (i : ℕ) (p : _) → get_elem? r.1.items i ≡ some p → IsOf p r.0 × ((pass_view p).rank ≡ i)) }
+{
+    let home = MapHome::<K, u64, Sum>::new(alloc, ranks, per_rank)?;
+    match home.begin::<Own>(alloc) {
+        Ok(begun) => Ok(begun),
+        Err(_) => Err(NoMemory),
+    }
+}
+
+/// The next phase, under Find.
+fn turned<K: Object>(
+    alloc: Global,
+    lead: MapLead<K, u64, Sum>,
+    passes: Vec<MapPass<Own, K, u64, Sum>>,
+) -> Result<(MapLead<K, u64, Sum>, Vec<MapPass<Find, K, u64, Sum>>), NoMemory>
+    requires all { length passes.items ≡ (lead_layout lead).ranks }
+    requires of { (i : ℕ) (p : _) → get_elem? passes.items i ≡ some p → IsOf p lead × ((pass_view p).rank ≡ i) }
+    ensures of { IfOk result (λ r. (i : ℕ) (p : _) → get_elem? r.1.items i ≡ some p → IsOf p r.0) }
+{
+    match lead.turn::<Own, Find>(alloc, passes) {
+        Ok(turned) => Ok(turned),
+        Err(_) => Err(NoMemory),
+    }
+}
+
+/// Inserts pairs, each rank its own, and finds keys, each rank its share of them.
+pub fn run<H: Threads + Sync>(
+    rt: &H,
+    alloc: Global,
+    job: &Job,
+    pairs: &[(u64, u64)],
+    wanted: &[(u64, u64)],
+) -> Result<u64, NoMemory> {
+    let (lead, passes) = begun::<u64>(alloc, job.ranks, job.per_rank)?;
+    let mut kits = inserters(alloc, &lead, passes, pairs)?;
+    if job.stage == Stage::Keys {
+        return Ok(dealt(&kits));
+    }
+    superstep_all(rt, &mut kits, &Always);
+    if job.stage == Stage::Insert {
+        return Ok(inserted(&kits));
+    }
+    let passes = passes_of(alloc, &lead, kits)?;
+    let (lead, passes) = turned(alloc, lead, passes)?;
+    let mut kits = finders(alloc, &lead, passes, wanted)?;
+    superstep_all(rt, &mut kits, &Always);
+    Ok(found(&kits))
+}
