@@ -6,7 +6,6 @@ pub mod Sees
 pub mod Takes
 pub mod Puts
 pub mod Replaces
-pub mod Readers
 pub mod Taken
 pub mod Reached
 pub mod Done

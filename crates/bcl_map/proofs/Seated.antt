@@ -1,11 +1,12 @@
 -- The layout and the key of a pass, as they come from a home or a lead.
-use Rattle.std.proofs.Common.{◌≡◌, ℕ, ◌+◌, ◌*◌, ◌/◌, ◌^◌, ◌<◌, ◌≤◌, arith, ap, refl, sym, ◌∙◌, subst, Option, Some, None}
+use Rattle.std.proofs.Common.{◌≡◌, ℕ, ◌/◌, ◌^◌, ◌<◌, ◌≤◌, arith, ap, refl, sym, ◌∙◌, subst, Option, Some, None}
 use Rattle.bcl_segment.specs.declared.layout.Layout.{Layout}
+use Rattle.bcl_segment.specs.Places as segment
 use Rattle.bcl_map.specs.declared.shape.Shape.{Shape}
 use Rattle.bcl_bucket.specs.Paths.{start_of}
 use Rattle.bcl_map.specs.Map.{Words, places, size, home, IsShaped}
 use Rattle.bcl_map.specs.Calls.{MapView, IsMine, IsSeated}
-use Rattle.bcl_map.proofs.Walks.{some_places, few_words_by, few_places, per_rank_by, places_by, begins_by}
+use Rattle.bcl_map.proofs.Walks.{some_places, few_words, few_places, buckets_by, places_by, home_by}
 
 some_same : (a b : Shape) → Some a ≡ Some b → a ≡ b
 some_same a b e = cc
@@ -24,33 +25,27 @@ pub shape_of : (kw vw : ℕ) (key : Option Shape) (layout : Layout) → IsSeated
 shape_of kw vw None layout seated = absurd (seated.0 refl)
 shape_of kw vw (Some shape) layout seated = (shape, refl, seated.1 shape refl)
 
--- ---- of a pass, whose layout and widths come in other words
+-- ---- of a pass, whose layout comes in other words
 
 module _ (kw vw : ℕ) (layout : Layout) (view : MapView) (seated : IsSeated kw vw view.key layout) where
   seat : (shape : Shape) × (view.key ≡ Some shape) × IsShaped kw vw 0 layout shape
   seat = shape_of kw vw view.key layout seated
 
   -- the words of a bucket are few
-  pub few_words : size kw vw ≤ 2 ^ 27
-  few_words = few_words_by kw vw 0 layout seat.0 seat.2
+  pub few_there : size kw vw ≤ 2 ^ 27
+  few_there = few_words kw vw 0 layout seat.0 seat.2
 
-  module _ (layout' : Layout) (a b : ℕ) (laid : layout' ≡ layout) (wide : a ≡ kw) (wide' : b ≡ vw) (k : Words) where
-    per : layout'.per_rank / (1 + (a + b)) ≡ seat.0.per_rank
-    per = per_rank_by kw vw 0 layout seat.0 seat.2 k layout' a b laid wide wide'
+  module _ (layout' buckets : Layout) (same : layout' ≡ layout) (is : buckets ≡ record { ranks = layout'.ranks; per_rank = layout'.per_rank / size kw vw }) where
+    pub some_buckets : 1 ≤ segment.places buckets
+    some_buckets = let e = places_by kw vw 0 layout seat.0 seat.2 layout' buckets same is in let some : 0 < places seat.0 = some_places kw vw 0 layout seat.0 seat.2 in omega arith
 
-    all : layout'.ranks * (layout'.per_rank / (1 + (a + b))) ≡ places seat.0
-    all = places_by kw vw 0 layout seat.0 seat.2 k layout' a b laid wide wide'
-
-    pub some_there : 1 ≤ layout'.ranks * (layout'.per_rank / (1 + (a + b)))
-    some_there = let e = all in let some : 0 < places seat.0 = some_places kw vw 0 layout seat.0 seat.2 k in omega arith
-
-    pub few_there : layout'.ranks * (layout'.per_rank / (1 + (a + b))) ≤ 2 ^ 27
-    few_there = let e = all in let few = few_places kw vw 0 layout seat.0 seat.2 in omega arith
+    pub few_buckets : segment.places buckets ≤ 2 ^ 27
+    few_buckets = let e = places_by kw vw 0 layout seat.0 seat.2 layout' buckets same is in let few = few_places kw vw 0 layout seat.0 seat.2 in omega arith
 
     -- the home of a key, as the code computes it
-    module _ (found : ℕ) (is : found ≡ start_of kw k (layout'.ranks * (layout'.per_rank / (1 + (a + b)))) / (layout'.per_rank / (1 + (a + b)))) where
+    module _ (k : Words) (found : ℕ) (there : found ≡ start_of kw k (segment.places buckets) / buckets.per_rank) where
       found_home : found ≡ home seat.0 k
-      found_home = is ∙ (λ i. begins_by kw vw 0 layout seat.0 seat.2 k _ _ refl all i / per i)
+      found_home = home_by kw vw 0 layout seat.0 seat.2 k buckets (buckets_by kw vw 0 layout seat.0 seat.2 layout' buckets same is) found there
 
       pub mine_if : found ≡ view.rank → IsMine view k
       mine_if same = record { shape = seat.0; of = seat.1; own = sym found_home ∙ same }

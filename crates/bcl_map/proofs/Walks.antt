@@ -1,5 +1,5 @@
 -- The walk along a path, from bucket to bucket.
-use Rattle.std.proofs.Common.{◌≡◌, ℕ, suc, [], ◌^◌, ◌+◌, ◌*◌, ◌-◌, ◌/◌, ◌%◌, ◌<◌, ◌≤◌, refl, sym, ap, ◌∙◌, subst, ⊎_elim, arith, mod-lt}
+use Rattle.std.proofs.Common.{◌≡◌, ℕ, suc, ◌^◌, ◌+◌, ◌*◌, ◌-◌, ◌/◌, ◌%◌, ◌<◌, ◌≤◌, refl, sym, ap, ◌∙◌, subst, ⊎_elim, arith, mod-lt}
 use Rattle.std.specs.Prelude.{Bool, true, false, nat_lt, if◌then◌else◌}
 use Rattle.std.proofs.lemmas.Bool.{cases_lt}
 use Rattle.std.proofs.lemmas.Bool.Decides.{Decides-ltb}
@@ -7,6 +7,7 @@ use Rattle.std.proofs.lemmas.Bool.{false≢true}
 use Rattle.std.proofs.Math.Nat.{mul_assoc, mul_comm, add-mul, mul-le-mul_right, le-mul_of_pos_right, le_of_mul-le-mul_right, mod-eq_of_lt, mod_self, mod-add-mod, mul-div_cancel, mul-pos, div-mul-le_self, lt-mul-div-succ, div-lt_iff_lt-mul}
 use Rattle.bcl_segment.specs.declared.layout.GlobalPtr.{GlobalPtr}
 use Rattle.bcl_segment.specs.declared.layout.Layout.{Layout}
+use Rattle.bcl_segment.specs.Places as segment
 use Rattle.bcl_map.specs.declared.shape.Shape.{Shape}
 use Rattle.bcl_map.specs.Map.{Words, places, begins_at, home, path, size, IsShaped}
 use Rattle.bcl_bucket.specs.Paths.{start_of}
@@ -89,24 +90,41 @@ module _ (w n : ℕ) (layout : Layout) (some : 1 ≤ w) (wide : layout.per_rank 
     pub next_at : IsBucketAt w layout (after at layout w) ((place + 1) % (layout.ranks * n))
     next_at = go (nat_lt (at.offset + w) layout.per_rank) (nat_lt (at.rank + 1) layout.ranks) refl refl
 
--- along the path of a key
-module _ (kw vw heads : ℕ) (layout : Layout) (L : Shape) (shaped : IsShaped kw vw heads layout L) (k : Words) where
+-- the buckets of a map
+module _ (kw vw heads : ℕ) (layout : Layout) (L : Shape) (shaped : IsShaped kw vw heads layout L) where
   some_words : 1 ≤ size kw vw
   some_words = omega arith
-
-  pub per_rank_is : layout.per_rank / size kw vw ≡ L.per_rank
-  per_rank_is = ap (λ (n : ℕ). n / size kw vw) shaped.of_buckets ∙ mul-div_cancel L.per_rank some_words
 
   pub some_places : 0 < places L
   some_places = mul-pos (let h = shaped.some_ranks in omega arith) (let h = shaped.some in omega arith)
 
   -- so few words are there, and so few places
-  few_all : places L * size kw vw ≤ 2 ^ 27
+  pub few_all : places L * size kw vw ≤ 2 ^ 27
   few_all = let few = shaped.few in
       let all : layout.ranks * layout.per_rank ≡ places L * size kw vw = (λ i. shaped.of_ranks i * shaped.of_buckets i) ∙ sym (mul_assoc L.ranks L.per_rank (size kw vw)) in omega arith
 
+  pub few_words : size kw vw ≤ 2 ^ 27
+  few_words = let all = few_all in let some : 1 ≤ places L = some_places in
+      let more : 1 * size kw vw ≤ places L * size kw vw = mul-le-mul_right (size kw vw) some in let one : 1 * size kw vw ≡ size kw vw = omega arith in omega arith
+
+  pub few_places : places L ≤ 2 ^ 27
+  few_places = let all = few_all in let more : places L ≤ places L * size kw vw = le-mul_of_pos_right (places L) (omega arith) in omega arith
+
+  -- the layout in buckets, as the code computes it
+  module _ (layout' buckets : Layout) (same : layout' ≡ layout) (is : buckets ≡ record { ranks = layout'.ranks; per_rank = layout'.per_rank / size kw vw }) where
+    pub buckets_by : buckets ≡ record { ranks = L.ranks; per_rank = L.per_rank }
+    buckets_by = is ∙ (λ i. record { ranks = (ap (λ (l : Layout). l.ranks) same ∙ shaped.of_ranks) i; per_rank = (ap (λ (l : Layout). l.per_rank / size kw vw) same ∙ per_rank_is) i })
+      where
+        per_rank_is : layout.per_rank / size kw vw ≡ L.per_rank
+        per_rank_is = ap (λ (n : ℕ). n / size kw vw) shaped.of_buckets ∙ mul-div_cancel L.per_rank some_words
+
+    pub places_by : segment.places buckets ≡ places L
+    places_by = ap segment.places buckets_by
+
+-- along the path of a key
+module _ (kw vw heads : ℕ) (layout : Layout) (L : Shape) (shaped : IsShaped kw vw heads layout L) (k : Words) where
   begins_low : begins_at L k < places L
-  begins_low = mod-lt _ some_places
+  begins_low = mod-lt _ (some_places kw vw heads layout L shaped)
 
   pub first_at : IsBucketAt (size kw vw) layout (record { rank = home L k; offset = (begins_at L k - home L k * L.per_rank) * size kw vw }) (path L k 0)
   first_at =
@@ -117,29 +135,29 @@ module _ (kw vw heads : ℕ) (layout : Layout) (L : Shape) (shaped : IsShaped kw
       let m : ℕ = b - q * n in
       let of_rank : q < layout.ranks = (let under : q < L.ranks = (div-lt_iff_lt-mul {k = n} {x = b} {y = L.ranks} (let h = shaped.some in omega arith)).1 begins_low in let same = shaped.of_ranks in omega arith) in
       let cut : q * n + m ≡ (b + 0) % places L = (let s : q * n + m ≡ b + 0 = omega arith in s ∙ sym (mod-eq_of_lt (let l : b < places L = begins_low in omega arith))) in
-      subst (IsBucketAt (size kw vw) layout (record { rank = q; offset = m * size kw vw })) cut (bucket_at (size kw vw) n layout some_words shaped.of_buckets q m of_rank (omega arith))
+      subst (IsBucketAt (size kw vw) layout (record { rank = q; offset = m * size kw vw })) cut (bucket_at (size kw vw) n layout (omega arith) shaped.of_buckets q m of_rank (omega arith))
 
   pub along : (d : ℕ) (at : GlobalPtr) → IsBucketAt (size kw vw) layout at (path L k d) → IsBucketAt (size kw vw) layout (after at layout (size kw vw)) (path L k (suc d))
-  along d at bucket = subst (IsBucketAt (size kw vw) layout (after at layout (size kw vw))) on (next_at (size kw vw) L.per_rank layout some_words shaped.of_buckets at (path L k d) bucket)
+  along d at bucket = subst (IsBucketAt (size kw vw) layout (after at layout (size kw vw))) on (next_at (size kw vw) L.per_rank layout (omega arith) shaped.of_buckets at (path L k d) bucket)
     where
       on : (path L k d + 1) % (layout.ranks * L.per_rank) ≡ path L k (suc d)
       on = ap (λ (r : ℕ). (path L k d + 1) % (r * L.per_rank)) shaped.of_ranks
           ∙ (mod-add-mod (begins_at L k + d) (places L) 1 ∙ ap (λ (n : ℕ). n % places L) (let s : begins_at L k + d + 1 ≡ begins_at L k + suc d = omega arith in s))
 
-  -- the numbers of the layout, as the code computes them
-  pub per_rank_by : (layout' : Layout) (a b : ℕ) → layout' ≡ layout → a ≡ kw → b ≡ vw → layout'.per_rank / (1 + (a + b)) ≡ L.per_rank
-  per_rank_by layout' a b same wide wide' = (λ i. (same i).per_rank / (1 + (wide i + wide' i))) ∙ per_rank_is
+  -- where the path begins, as the code computes it
+  module _ (buckets : Layout) (is : buckets ≡ record { ranks = L.ranks; per_rank = L.per_rank }) where
+    begins_by : start_of kw k (segment.places buckets) ≡ begins_at L k
+    begins_by i = start_of (sym shaped.wide i) k (segment.places (is i))
 
-  pub places_by : (layout' : Layout) (a b : ℕ) → layout' ≡ layout → a ≡ kw → b ≡ vw → layout'.ranks * (layout'.per_rank / (1 + (a + b))) ≡ places L
-  places_by layout' a b same wide wide' = λ i. (((λ j. (same j).ranks) ∙ shaped.of_ranks) i) * (per_rank_by layout' a b same wide wide' i)
+    pub home_by : (found : ℕ) → found ≡ start_of kw k (segment.places buckets) / buckets.per_rank → found ≡ home L k
+    home_by found e = e ∙ (λ i. begins_by i / (is i).per_rank)
 
-  pub begins_by : (first n : ℕ) → first ≡ start_of kw k n → n ≡ places L → first ≡ begins_at L k
-  begins_by first n is many = is ∙ (λ i. start_of (sym shaped.wide i) k (many i))
-
-  -- the first bucket, so computed
-  pub first_by : (layout' : Layout) (a b first per : ℕ) → a ≡ kw → b ≡ vw → first ≡ begins_at L k → per ≡ L.per_rank → IsBucketAt (size kw vw) layout (record { rank = first / per; offset = (first - first / per * per) * (1 + (a + b)) }) (path L k 0)
-  first_by layout' a b first per wide wide' begins per_is =
-      subst (λ (z : ℕ × ℕ × ℕ × ℕ). IsBucketAt (size kw vw) layout (record { rank = z.0 / z.1; offset = (z.0 - z.0 / z.1 * z.1) * (1 + (z.2 + z.3)) }) (path L k 0)) (λ i. (sym begins i, sym per_is i, sym wide i, sym wide' i)) first_at
+    pub first_by : (at : GlobalPtr) → at.rank ≡ start_of kw k (segment.places buckets) / buckets.per_rank → at.offset ≡ (start_of kw k (segment.places buckets) - at.rank * buckets.per_rank) * size kw vw
+        → IsBucketAt (size kw vw) layout at (path L k 0)
+    first_by at rank offset = subst (λ (z : ℕ × ℕ). IsBucketAt (size kw vw) layout (record { rank = z.0; offset = z.1 }) (path L k 0)) (λ i. (sym (home_by at.rank rank) i, sym there i)) first_at
+      where
+        there : at.offset ≡ (begins_at L k - home L k * L.per_rank) * size kw vw
+        there = offset ∙ (λ i. (begins_by i - home_by at.rank rank i * (is i).per_rank) * size kw vw)
 
 -- through all buckets, from the first on
 module _ (kw vw heads : ℕ) (layout : Layout) (L : Shape) (shaped : IsShaped kw vw heads layout L) where
@@ -153,16 +171,8 @@ module _ (kw vw heads : ℕ) (layout : Layout) (L : Shape) (shaped : IsShaped kw
       none_more : (n : ℕ) → 0 * n + 0 ≡ 0
       none_more n = omega arith
 
-  pub onward : (place words : ℕ) (at : GlobalPtr) → words ≡ size kw vw → IsBucketAt (size kw vw) layout at place → place + 1 < places L → IsBucketAt (size kw vw) layout (after at layout words) (place + 1)
-  onward place words at is bucket more = subst (λ (z : ℕ × ℕ). IsBucketAt (size kw vw) layout (after at layout z.0) z.1) (λ i. (sym is i, same i)) (next_at (size kw vw) L.per_rank layout (omega arith) shaped.of_buckets at place bucket)
+  pub onward : (place : ℕ) (at : GlobalPtr) → IsBucketAt (size kw vw) layout at place → place + 1 < places L → IsBucketAt (size kw vw) layout (after at layout (size kw vw)) (place + 1)
+  onward place at bucket more = subst (IsBucketAt (size kw vw) layout (after at layout (size kw vw))) same (next_at (size kw vw) L.per_rank layout (omega arith) shaped.of_buckets at place bucket)
     where
       same : (place + 1) % (layout.ranks * L.per_rank) ≡ place + 1
       same = ap (λ (r : ℕ). (place + 1) % (r * L.per_rank)) shaped.of_ranks ∙ mod-eq_of_lt more
-
-module _ (kw vw heads : ℕ) (layout : Layout) (L : Shape) (shaped : IsShaped kw vw heads layout L) where
-  pub few_words_by : size kw vw ≤ 2 ^ 27
-  few_words_by = let all = few_all kw vw heads layout L shaped [] in let some : 1 ≤ places L = some_places kw vw heads layout L shaped [] in
-      let more : 1 * size kw vw ≤ places L * size kw vw = mul-le-mul_right (size kw vw) some in let one : 1 * size kw vw ≡ size kw vw = omega arith in omega arith
-
-  pub few_places : places L ≤ 2 ^ 27
-  few_places = let all = few_all kw vw heads layout L shaped [] in let more : places L ≤ places L * size kw vw = le-mul_of_pos_right (places L) (omega arith) in omega arith

@@ -1,12 +1,12 @@
 -- Kinds of step of the map, as the rule of all containers asks for them.
-use Rattle.std.specs.Prelude.{◌≡◌, ◌≢◌, ℕ, suc, ◌+◌, ◌*◌, ◌%◌, ◌==◌, List, [], ◌∷◌, ◌++◌, if◌then◌else◌, Some, ◌-◌, ◌^◌}
+use Rattle.std.specs.Prelude.{◌≡◌, ℕ, ◌+◌, ◌*◌, List, [], ◌∷◌}
 use Rattle.bcl_map.specs.declared.shape.Shape.{Shape}
 use Rattle.bcl_event.specs.declared.map.MapCall.{MapCall}
 use Rattle.bcl_event.specs.declared.map.MapReply.{MapReply}
-use Rattle.bcl_event.specs.Map.{Pairs, value_at}
+use Rattle.bcl_event.specs.Map.{Pairs}
 use Rattle.bcl_phase.specs.Rule.{Moves}
-use Rattle.bcl_map.specs.Map.{Words, filling, home, path, next, permits, size}
-use Rattle.bcl_map.specs.Notes.{Claim, keyed, lent, Note}
+use Rattle.bcl_map.specs.Map.{Words, path, next, permits, size}
+use Rattle.bcl_map.specs.Notes.{Claim, Note}
 use Rattle.bcl_map.specs.Fits.{fits}
 
 -- a note with these claims
@@ -28,19 +28,3 @@ module _ (kw vw : ℕ) (op : Words → Words → Words) (L : Shape) where
   -- the control word's number of a place on a path
   abbrev pub control_at : Words → ℕ → ℕ
   control_at k d = size kw vw * path L k d + 0
-
-  -- the word of a READY place with so many readers
-  abbrev pub read_by : Words → ℕ → ℕ
-  read_by k c = 2 + home L k * 256 + c * 65536
-
-  -- FindInsert: the exchange that adds a reader; lost, it has looked at the word that it found
-  abbrev pub AddsReader : ℕ → Note → Words → ℕ → ℕ → Type 0
-  AddsReader r x k d c = x.claims ≡ keyed k d ∷ []
-      → Step filling r x (control_at k d) (λ n. if n == read_by k c then read_by k (suc c) else n)
-      (λ n t did y. (n ≡ read_by k c → (v : Words) × Goes_on x (lent (path L k d) k v ∷ keyed k d ∷ []) did y × (value_at k t ≡ Some v))
-      × (n ≢ read_by k c → (did ≡ []) × (y ≡ record x { looked = x.looked ++ (path L k d, n) ∷ [] })))
-
-  -- the fetch_sub that takes it off
-  abbrev pub TakesReaderOff : ℕ → Note → Words → Words → ℕ → Type 0
-  TakesReaderOff r x k v d = x.claims ≡ lent (path L k d) k v ∷ keyed k d ∷ []
-      → Step filling r x (control_at k d) (λ n. (n + (2 ^ 64 - 65536)) % 2 ^ 64) (λ _ t did y. Goes_on x (keyed k d ∷ []) did y)

@@ -6,9 +6,8 @@ ghost use Rattle.bcl_phase.specs.Parts.{home_view, home_words, home_key, home_la
 ghost use Rattle.bcl_map.specs.Map.{places, IsShaped};
 ghost use Rattle.bcl_map.specs.Closed.{pairs_to};
 
-use crate::find::next_bucket;
-use crate::look::word;
 use crate::map::Map;
+use crate::walk::{in_buckets, next_bucket, word};
 use bcl_phase::Home;
 use bcl_segment::GlobalPtr;
 use bcl_words::{MergeLaw, Object};
@@ -26,15 +25,15 @@ pub(crate) fn count_pairs<K: Object, V: Object, L: MergeLaw<V>>(
     ensures same { IsSameHome home.old home.new }
 {
     let layout = home.layout();
-    let bucket = 1 + (K::WORDS + V::WORDS) as u32;
-    let places = layout.ranks * (layout.per_rank / bucket);
+    let buckets = in_buckets::<K, V>(layout);
+    let places = buckets.ranks * buckets.per_rank;
     let mut at = GlobalPtr { rank: 0, offset: 0 };
     let mut count = 0;
     for place in 0..places {
         if home.look(word(at, 0)) != 0 {
             count += 1;
         }
-        at = next_bucket(at, layout, bucket);
+        at = next_bucket::<K, V>(at, layout);
     }
     count
 }

@@ -7,41 +7,16 @@ ghost use Rattle.bcl_event.specs.declared.map.MapCall.TheVariants.{Find as a_fin
 ghost use Rattle.bcl_phase.specs.Parts as phase;
 ghost use Rattle.bcl_map.specs.Map.{places, size, IsShaped};
 ghost use Rattle.bcl_map.specs.Finds.{MaySee};
-ghost use Rattle.bcl_map.specs.Calls.{Stands, after, reply};
+ghost use Rattle.bcl_map.specs.Calls.{Stands, reply};
 ghost use Rattle.bcl_map.specs.Parts.{lead_key, pass_view, IsOf};
 
 use crate::lead::MapLead;
 use crate::look::{Look, look_at};
 use crate::map::Map;
 use crate::pass::MapPass;
-use bcl_bucket::start;
+use crate::walk::{first_bucket, in_buckets, next_bucket};
 use bcl_phase::{Find, Lead, Pass, Promise};
-use bcl_segment::{GlobalPtr, Layout};
 use bcl_words::{MergeLaw, Object};
-
-// The bucket after one on a path: after the last comes the first.
-#[inline(always)]
-pub(crate) fn next_bucket(at: GlobalPtr, layout: Layout, bucket: u32) -> GlobalPtr
-    requires at { at.offset + bucket ≤ layout.per_rank }
-    requires rank { at.rank < layout.ranks }
-    ensures next { result ≡ after at layout bucket }
-{
-    let offset = at.offset + bucket;
-    if offset < layout.per_rank {
-        return GlobalPtr {
-            rank: at.rank,
-            offset,
-        };
-    }
-    GlobalPtr {
-        rank: if at.rank + 1 < layout.ranks {
-            at.rank + 1
-        } else {
-            0
-        },
-        offset: 0,
-    }
-}
 
 /// The value of a key, which no other rank changes. Gets alone; the find takes place at the last.
 #[inline]
@@ -64,21 +39,16 @@ pub(crate) fn find_key<K: Object, V: Object, L: MergeLaw<V>, P: Promise>(
     ensures atomics { (phase.pass_view pass.new).atomics ≡ (phase.pass_view pass.old).atomics }
 {
     let layout = pass.layout();
-    let bucket = 1 + (K::WORDS + V::WORDS) as u32;
-    let per_rank = layout.per_rank / bucket;
-    let places = layout.ranks * per_rank;
-    let first = start(key, places);
-    let home = first / per_rank;
+    let buckets = in_buckets::<K, V>(layout);
+    let places = buckets.ranks * buckets.per_rank;
+    let mut at = first_bucket::<K, V>(key, buckets);
+    let home = at.rank;
     let words = key.to_words();
-    let mut at = GlobalPtr {
-        rank: home,
-        offset: (first - home * per_rank) * bucket,
-    };
     for number in 0..places {
         match look_at(pass, lead, at, &words, number, home, number + 1 == places) {
             Look::Found(value) => return Some(value),
             Look::Absent => return None,
-            Look::Passed => at = next_bucket(at, layout, bucket),
+            Look::Passed => at = next_bucket::<K, V>(at, layout),
         }
     }
     unreachable!()

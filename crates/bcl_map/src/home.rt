@@ -9,6 +9,7 @@ use crate::map::{Buckets, Map, MapGrants};
 use crate::note::Note;
 use crate::pass::MapPass;
 use crate::shape::Shape;
+use crate::walk::in_buckets;
 use bcl_phase::{Home, Phased, Promise, Refused};
 use bcl_segment::Layout;
 use bcl_words::{MergeLaw, NoMemory, Object};
@@ -67,12 +68,7 @@ impl<K: Object, V: Object, L: MergeLaw<V>> MapHome<K, V, L> {
     pub fn shape(&self) -> Layout
         ensures shape { result ≡ record { ranks = (map.home_key self.now).ranks; per_rank = (map.home_key self.now).per_rank } }
     {
-        let layout = self.home.layout();
-        let bucket = 1 + (K::WORDS + V::WORDS) as u32;
-        Layout {
-            ranks: layout.ranks,
-            per_rank: layout.per_rank / bucket,
-        }
+        in_buckets::<K, V>(self.home.layout())
     }
 
     /// Begins a phase: as many passes as there are ranks, rank i at place i, and the lead that ends it.

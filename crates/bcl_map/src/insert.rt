@@ -17,8 +17,9 @@ ghost use Rattle.bcl_map.specs.Calls.{IsBucketAt};
 ghost use Rattle.bcl_map.specs.Inserts.{writing, strays, old_of};
 ghost use Rattle.bcl_map.specs.Reaches.{KnowsOwn, Comes, Ends, IsHeading, IsMatching, IsFacing, IsPast, Meets, Inserts, words_put};
 
-use crate::look::word;
+use crate::control::{names, ready};
 use crate::map::Map;
+use crate::walk::word;
 use bcl_phase::{Lead, Own, Pass};
 use bcl_segment::GlobalPtr;
 use bcl_words::{MergeLaw, Object};
@@ -124,10 +125,9 @@ fn take<K: Object, V: Object, L: MergeLaw<V>>(
         lead,
         word(at, 0),
         0,
-        2 + u64::from(home) * 256,
+        ready(home),
         &(*key, *value, number),
-    )
-    .is_ok()
+    ).is_ok()
 }
 
 /// Whether the key of a bucket, whose home is this rank, is this one: a get of each of its words, up to the first that
@@ -319,7 +319,7 @@ pub(crate) fn insert_at<K: Object, V: Object, L: MergeLaw<V>>(
         }
         control = see_again(pass, lead, at, key, value, number);
     }
-    if control / 256 % 256 == u64::from(home) && has_key(pass, lead, at, key, value, number) {
+    if names(control, home) && has_key(pass, lead, at, key, value, number) {
         replace(pass, lead, at, key, value, number);
         return Some(Inserted::Replaced);
     }

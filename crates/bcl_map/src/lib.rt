@@ -1,7 +1,29 @@
-//! A hash map.
+//! A hash map that ranks share, with buckets at each of them (Brock, Buluç, Yelick, ICPP 2019: their hash map with open
+//! addressing).
+//!
+//! Its one contract for the layer above: each call is one event of the map's history, which is legal for the map of
+//! `bcl_event`, and stands behind all that its pass had seen. So no pair is lost, whichever ranks meet at a bucket, and a
+//! map that is closed has each pair that its history leaves, once.
+//!
+//! What ranks may do at the same time makes a call cheap. Under `Find` nobody writes, so a find is gets alone. Under `Own`
+//! each rank works on the keys whose home it is: it makes one exchange for each free bucket that it meets on the path of
+//! a new key, and none where the key is there.
+//!
+//! - `map`: the sequential object. `specs/Cells.antt` says what a bucket is, `specs/Fits.antt` what the words mean, and
+//!   docs/PROTOCOLS.md the same in prose.
+//! - `shape`, `note`: what is fixed of a map, and what a pass knows between two of its steps, by `specs/Notes.antt`.
+//! - `home`, `lead`, `pass`: who has a map alone, who has begun a phase, and one rank's part. `specs/Parts.antt` says what
+//!   a contract sees of them.
+//! - `control`, `walk`: control words, and the way from bucket to bucket.
+//! - `find`: a find, and `look`, its look at one bucket.
+//! - `own`: the calls under `Own`, and `insert`, the insertion at one bucket.
+//! - `close`: a map that is closed. `count` and `pairs` list what it has, by `specs/Closed.antt`.
+//!
+//! `tutorial` is a whole program on it, which docs/TUTORIAL.md goes through.
 #![tactic(auto)]
 
 mod close;
+mod control;
 mod count;
 mod find;
 mod home;
@@ -18,6 +40,7 @@ mod shape;
 mod tests;
 #[cfg(test)]
 mod tutorial;
+mod walk;
 
 pub use close::ClosedMap;
 pub use home::MapHome;

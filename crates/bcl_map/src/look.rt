@@ -2,9 +2,8 @@
 //!
 //! No other rank changes the value of the key meanwhile, so gets alone find it.
 
-ghost use Rattle.std.specs.Prelude.{◌≡◌, ◌+◌, ◌↔◌, ◌^◌, ◌<◌, ◌≤◌, [], ◌∷◌, true, false};
+ghost use Rattle.std.specs.Prelude.{◌≡◌, ◌+◌, ◌↔◌, ◌≤◌, [], ◌∷◌, true, false};
 ghost use Rattle.bcl_words.specs.Words.{Fits, IsWords};
-ghost use Rattle.bcl_segment.specs.declared.layout.Spot.TheVariants.{At};
 ghost use Rattle.bcl_event.specs.History.{event};
 ghost use Rattle.bcl_event.specs.declared.map.MapCall.TheVariants.{Find};
 ghost use Rattle.bcl_event.specs.declared.map.MapReply.TheVariants.{Value, Absent};
@@ -17,23 +16,13 @@ ghost use Rattle.bcl_map.specs.Calls.{Stands, IsBucketAt, IsPassed};
 ghost use Rattle.bcl_map.specs.declared.look.Look.TheVariants.{Absent as not_there};
 ghost use Rattle.bcl_map.specs.Looks.{Looks, most_gets};
 
+use crate::control::names;
 use crate::map::Map;
+use crate::walk::word;
 use bcl_phase::{Lead, Pass, Promise};
-use bcl_segment::{GlobalPtr, Spot};
+use bcl_segment::GlobalPtr;
 use bcl_words::{MergeLaw, Object};
 use std::marker::Brand;
-
-// The spot of the word j of a bucket.
-#[inline(always)]
-pub(crate) fn word(at: GlobalPtr, j: usize) -> Spot
-    requires room { at.offset + j < 2 ^ 32 }
-    ensures spot { result ≡ At (record { rank = at.rank; offset = at.offset + j }) }
-{
-    Spot::At(GlobalPtr {
-        rank: at.rank,
-        offset: at.offset + j as u32,
-    })
-}
 
 /// The value of a bucket that has the key. A get of each of its words: the find takes place at the last.
 #[inline]
@@ -159,7 +148,7 @@ pub(crate) fn look_at<K: Object, V: Object, L: MergeLaw<V>, P: Promise>(
     if control == 0 {
         return Look::Absent;
     }
-    if control / 256 % 256 == u64::from(home) && same_key(pass, lead, at, key, number) {
+    if names(control, home) && same_key(pass, lead, at, key, number) {
         return Look::Found(value(pass, lead, at, key, number));
     }
     if last { Look::Absent } else { Look::Passed }

@@ -11,14 +11,13 @@ ghost use Rattle.bcl_map.specs.Costs.{taken};
 ghost use Rattle.bcl_map.specs.Reaches.{inserted, words_put_by, most_atomics};
 ghost use Rattle.bcl_map.specs.Parts.{lead_key, pass_view, IsOf};
 
-use crate::find::{find_key, next_bucket};
+use crate::find::find_key;
 use crate::insert::{Inserted, insert_at};
 use crate::lead::MapLead;
 use crate::map::Map;
 use crate::pass::MapPass;
-use bcl_bucket::start;
+use crate::walk::{first_bucket, in_buckets, next_bucket};
 use bcl_phase::{Lead, Own, Pass};
-use bcl_segment::GlobalPtr;
 use bcl_words::{MergeLaw, Object};
 
 /// Stores a value for a key, whose home is the pass's rank.
@@ -43,22 +42,17 @@ fn insert_key<K: Object, V: Object, L: MergeLaw<V>>(
     ensures atomics { (phase.pass_view pass.new).atomics ≤ (phase.pass_view pass.old).atomics + most_atomics (taken (phase.pass_view pass.old) (phase.pass_view pass.new)) result }
 {
     let layout = pass.layout();
-    let bucket = 1 + (K::WORDS + V::WORDS) as u32;
-    let per_rank = layout.per_rank / bucket;
-    let places = layout.ranks * per_rank;
-    let first = start(key, places);
-    let home = first / per_rank;
+    let buckets = in_buckets::<K, V>(layout);
+    let places = buckets.ranks * buckets.per_rank;
+    let mut at = first_bucket::<K, V>(key, buckets);
+    let home = at.rank;
     let words = key.to_words();
     let value_words = value.to_words();
-    let mut at = GlobalPtr {
-        rank: home,
-        offset: (first - home * per_rank) * bucket,
-    };
     for number in 0..places {
         let last = number + 1 == places;
         match insert_at(pass, lead, at, &words, &value_words, number, home, last) {
             Some(inserted) => return inserted,
-            None => at = next_bucket(at, layout, bucket),
+            None => at = next_bucket::<K, V>(at, layout),
         }
     }
     unreachable!()

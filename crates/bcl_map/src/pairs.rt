@@ -8,9 +8,8 @@ ghost use Rattle.bcl_map.specs.Map.{places, IsShaped};
 ghost use Rattle.bcl_map.specs.Fits.{Holds};
 ghost use Rattle.bcl_map.specs.Closed.{object, pairs_to, in_words, contents};
 
-use crate::find::next_bucket;
-use crate::look::word;
 use crate::map::Map;
+use crate::walk::{in_buckets, next_bucket, word};
 use bcl_phase::Home;
 use bcl_segment::GlobalPtr;
 use bcl_words::{MergeLaw, Object};
@@ -57,8 +56,8 @@ pub(crate) fn list_pairs<K: Object, V: Object, L: MergeLaw<V>>(
     ensures same { IsSameHome home.old home.new }
 {
     let layout = home.layout();
-    let bucket = 1 + (K::WORDS + V::WORDS) as u32;
-    let places = layout.ranks * (layout.per_rank / bucket);
+    let buckets = in_buckets::<K, V>(layout);
+    let places = buckets.ranks * buckets.per_rank;
     let mut at = GlobalPtr { rank: 0, offset: 0 };
     for place in 0..places {
         if home.look(word(at, 0)) != 0 {
@@ -68,7 +67,7 @@ pub(crate) fn list_pairs<K: Object, V: Object, L: MergeLaw<V>>(
                 unreachable!()
             };
         }
-        at = next_bucket(at, layout, bucket);
+        at = next_bucket::<K, V>(at, layout);
     }
     pairs
 }

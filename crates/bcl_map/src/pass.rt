@@ -6,9 +6,9 @@ ghost use Rattle.bcl_map.specs.Calls.{IsAtRest, IsSeated};
 use crate::map::{Buckets, Map};
 use crate::note::Note;
 use crate::shape::Shape;
+use crate::walk::in_buckets;
 use bcl_bucket::home_rank;
 use bcl_phase::{Pass, Phased, Promise, Wraps};
-use bcl_segment::Layout;
 use bcl_words::{MergeLaw, Object};
 
 /// One rank's part in a phase of a map under the promise P. It may go to another thread.
@@ -59,12 +59,7 @@ impl<P: Promise, K: Object, V: Object, L: MergeLaw<V>> MapPass<P, K, V, L> {
         requires key { Fits K.WORDS }
         ensures mine { (result ≡ true) ↔ IsMine (map.pass_view self.now) (K.words key.now) }
     {
-        let layout = self.pass.layout();
-        let bucket = 1 + (K::WORDS + V::WORDS) as u32;
-        let buckets = Layout {
-            ranks: layout.ranks,
-            per_rank: layout.per_rank / bucket,
-        };
+        let buckets = in_buckets::<K, V>(self.pass.layout());
         home_rank(key, buckets) == self.pass.rank()
     }
 }

@@ -1,11 +1,11 @@
-use Rattle.std.proofs.Common.{ap, ◌∙◌, []}
 use Rattle.bcl_phase.specs.Parts.{home_key, home_layout, home_heads}
-use Rattle.bcl_segment.specs.declared.layout.Layout.{Layout}
-use Rattle.bcl_map.proofs.Walks.{per_rank_by}
+use Rattle.bcl_map.proofs.Walks.{few_words, buckets_by}
 use Rattle.bcl_map.proofs.home.MapHome.shape.Goals as goal
+
+pub in_buckets-requires-clause-few : goal.in_buckets-requires-clause-few
+in_buckets-requires-clause-few g c κs outlives = let home = c.args.self.now.home in few_words g.K.Object.WORDS g.V.Object.WORDS (home_heads home) (home_layout home) (home_key home) c.args.self.now.shape
 
 pub returns : goal.returns
 returns g c = record {
-  shape = let home = c.args.self.now.home in let same = c.layout-layout.ensures.layout in let shaped = c.args.self.now.shape in
-      λ i. record { ranks = (ap (λ (l : Layout). l.ranks) same ∙ shaped.of_ranks) i; per_rank = per_rank_by g.K.Object.WORDS g.V.Object.WORDS (home_heads home) (home_layout home) (home_key home) shaped [] c.layout-layout.result _ _ same c.WORDS.ensures c.WORDS-2.ensures i };
+  shape = let home = c.args.self.now.home in buckets_by g.K.Object.WORDS g.V.Object.WORDS (home_heads home) (home_layout home) (home_key home) c.args.self.now.shape c.layout.result c.in_buckets.result c.layout.ensures.layout c.in_buckets.ensures.buckets;
 }
