@@ -153,7 +153,8 @@ impl Model for MemSink {
 
 impl MemSink {
     /// A sink with room for so many bytes, which takes at most `piece` of them a call. The calls whose numbers, from 1,
-    /// are in `failing` fail, and so does each call with a piece that isn't empty once the room is used up.
+    /// are in `failing` fail, and so does each call once the room is used up. A call with no bytes has no number, and
+    /// never fails.
     pub fn new(
         alloc: Global,
         room: usize,
@@ -189,7 +190,7 @@ impl Sink for MemSink {
 
     ghost faults = { λ s. s.schedule.faults };
 
-    /// Takes as many bytes as the piece, the length of `buf` and the room left allow.
+    /// Takes as many bytes as the piece, the length of `buf` and the room left allow. An empty `buf` changes nothing.
     fn write(&mut self, buf: &[u8]) -> Result<usize, Failed>
         ensures bound { IfOk result (λ n. n ≤ length buf.now) }
         ensures moves { IfOk result (λ n. 0 < length buf.now → 0 < n) }
@@ -197,16 +198,20 @@ impl Sink for MemSink {
         ensures faults { CountsFaults self.old.schedule.faults self.new.schedule.faults result }
 
         ensures count { IfOk result (λ n. n ≡ min (min (length buf.now) self.old.piece) (self.old.room - length self.old.taken)) }
-        ensures fails { IsErr result ↔ (FailsNext self.old.schedule ⊎ ((0 < length buf.now) × (self.old.room ≤ length self.old.taken))) }
-        ensures call { CallsOnce self.old.schedule self.new.schedule }
+        ensures fails { IsErr result ↔ ((0 < length buf.now) × (FailsNext self.old.schedule ⊎ (self.old.room ≤ length self.old.taken))) }
+        ensures call { 0 < length buf.now → CallsOnce self.old.schedule self.new.schedule }
+        ensures no_call { buf.now ≡ [] → self.new ≡ self.old }
         ensures piece { self.new.piece ≡ self.old.piece }
         ensures room { self.new.room ≡ self.old.room }
     {
+        if buf.is_empty() {
+            return Ok(0);
+        }
         if self.schedule.fails() {
             return Err(self.schedule.fault());
         }
         let n = buf.len().min(self.piece).min(self.room - self.bytes.len());
-        if n == 0 && !buf.is_empty() {
+        if n == 0 {
             return Err(self.schedule.fault());
         }
         let Ok(()) = self.bytes.extend_from_slice(&buf[..n]) else {

@@ -74,6 +74,7 @@ fn a_sink_takes_what_there_is_room_for(rt: HostRuntime) -> Result<(), Fail> {
     let alloc = rt.alloc();
     let mut sink = MemSink::new(alloc, 5, 2, vec![in alloc; 2]?)?;
     assert_eq!(rt; sink.write(b"abc"), Ok(2));
+    assert_eq!(rt; sink.write(b""), Ok(0), "no bytes are no call");
     assert_eq!(rt; sink.write(b"c"), Err(Failed));
     assert_eq!(rt; write_all(&mut sink, b"cde"), Ok(()));
     assert_eq!(rt; sink.write(b""), Ok(0));
@@ -143,6 +144,29 @@ fn devices_of_std_pass_faults_on(rt: HostRuntime) {
         flushes: false,
     });
     assert_eq!(rt; stuck.write(b"ab"), Err(Failed), "a flush that fails");
+}
+
+/// A reader that has no byte for now, and says so by an error of that kind.
+#[derive(Drop)]
+struct Waiting {
+    kind: io::ErrorKind,
+}
+
+impl io::Read for Waiting {
+    fn read(&mut self, _: &mut [u8]) -> io::Result<usize> {
+        Err(io::Error::from(self.kind))
+    }
+}
+
+#[test]
+fn a_read_that_has_to_wait_is_no_end(rt: HostRuntime) -> Result<(), Fail> {
+    let alloc = rt.alloc();
+    for kind in [io::ErrorKind::Interrupted, io::ErrorKind::WouldBlock] {
+        let mut src = StdSource::new(Waiting { kind });
+        assert_eq!(rt; length_read(alloc, &mut src, 10)?, Err(ReadFault::Failed));
+        assert_eq!(rt; src.read(&mut [0u8; 4]), Err(Failed));
+    }
+    Ok(())
 }
 
 #[test]
