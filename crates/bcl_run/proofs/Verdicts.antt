@@ -18,11 +18,11 @@ use Rattle.kmer_text.specs.Lines.{lines}
 use Rattle.kmer_text.specs.Letters.{bad_letter}
 use Rattle.kmer_text.specs.Windows.{total}
 use Rattle.kmer_text.specs.Nodes.{bad_node}
-use Rattle.kmer_walk.specs.declared.fault.WalkFault.{WalkFault}
-use Rattle.kmer_walk.specs.declared.fault.WalkFault.TheVariants as walks
-use Rattle.kmer_walk.specs.Keys.{first_conflict}
-use Rattle.kmer_walk.specs.Contigs.{contig_text}
-use Rattle.kmer_count.specs.Count.{count_text}
+use Rattle.kmer_paths.specs.declared.fault.WalkFault.{WalkFault}
+use Rattle.kmer_paths.specs.declared.fault.WalkFault.TheVariants as walks
+use Rattle.kmer_paths.specs.Keys.{first_conflict}
+use Rattle.kmer_paths.specs.Contigs.{contig_text}
+use Rattle.kmer_rows.specs.Count.{count_text}
 use Rattle.bcl_run.specs.declared.refusal.Refusal.{Refusal}
 use Rattle.bcl_run.specs.declared.refusal.Refusal.TheVariants.{TooManyBytes, TooManyLines, Line, TooManyWindows, Conflict, TooMuchText}
 use Rattle.bcl_run.specs.declared.settings.Settings.{Settings}

@@ -8,8 +8,8 @@ use Rattle.kmer_text.specs.declared.lines.CutFault.TheVariants as cuts
 use Rattle.kmer_text.specs.declared.check.LetterFault.{LetterFault}
 use Rattle.kmer_text.specs.declared.check.LetterFault.TheVariants as letters
 use Rattle.kmer_text.specs.declared.fault.InputFault.{InputFault}
-use Rattle.kmer_walk.specs.declared.fault.WalkFault.{WalkFault}
-use Rattle.kmer_walk.specs.declared.fault.WalkFault.TheVariants as walks
+use Rattle.kmer_paths.specs.declared.fault.WalkFault.{WalkFault}
+use Rattle.kmer_paths.specs.declared.fault.WalkFault.TheVariants as walks
 use Rattle.bcl_run.specs.declared.refusal.Refusal.TheVariants as refusals
 use Rattle.bcl_run.specs.declared.stop.Stop.{Stop}
 use Rattle.bcl_run.specs.declared.stop.Stop.TheVariants as stops

@@ -1,4 +1,1 @@
 pub mod Raised
-pub mod Occurs
-pub mod Entries
-pub mod Rows

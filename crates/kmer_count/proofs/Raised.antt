@@ -2,7 +2,7 @@
 -- A count is raised by how often a number stands in a list.
 use Rattle.std.proofs.Common.{◌≡◌, ◌∙◌, ◌≢◌, ℕ, zero, suc, ◌+◌, ◌<◌, ◌≤◌, List, [], ◌∷◌, ◌++◌, length, map, take, get_or, cond, eqb, Option, None, Some, unwrap_or, BTreeMap, arith, sym, ap, refl}
 use Rattle.std.specs.Ordering.{nat_cmp}
-use Rattle.std.specs.BTreeMap.{get, is_at, IsEmpty}
+use Rattle.std.specs.BTreeMap.{get, is_at, IsEmpty, IsOrdered}
 use Rattle.std.specs.Map.{lookup}
 use Rattle.std.specs.List.{slice_get}
 use Rattle.std.proofs.lemmas.Option.{get_or_from_slice_get}
@@ -14,7 +14,8 @@ use Rattle.std.specs.List.Sorted.{IsPermutation}
 use Rattle.std.proofs.lemmas.List.Sums.{sum_by-cons, sum_by-append, sum_by-take-le, count_by-le-length}
 use Rattle.kmer_text.specs.Kmers.{number_of}
 use Rattle.kmer_text.specs.Windows.{windows, all_windows}
-use Rattle.kmer_count.specs.Tally.{raised, times, held, Adds, Counts}
+use Rattle.kmer_rows.specs.Counts.{times, noted, AreCounts}
+use Rattle.kmer_count.specs.Tally.{raised, held, Adds, Counts}
 
 pub raised-zero : (o : Option ℕ) → raised o 0 ≡ o
 unfolding raised
@@ -93,3 +94,15 @@ pub windows_room : (k : ℕ) (ls : List (List ℕ)) (i : ℕ) (line : List ℕ) 
 windows_room k ls i line h at =
     let here : length (windows k (get_or ls i [])) ≡ length (windows k line) = ap (λ l. length (windows k l)) (get_or_from_slice_get ls i line [] at) in
     omega (arith, here, length-flat_map-take (windows k) ls i [] h)
+
+-- what a map that counts has of a number is what is noted of it
+raised-noted : (n : ℕ) → raised None n ≡ noted n
+raised-noted zero = raised-zero None
+raised-noted (suc n) = raised-suc None n ∙ ap Some (omega arith)
+
+-- the entries of a map that counts the windows are their counts
+pub entries_count : (k : ℕ) (lines : List (List ℕ)) (m : BTreeMap ℕ ℕ) → Counts (map number_of (all_windows k lines)) m → IsOrdered nat_cmp m → AreCounts k lines m.entries
+entries_count k lines m counts ordered = record {
+  rise = ordered;
+  each = λ q. counts q ∙ raised-noted (times q (map number_of (all_windows k lines)));
+}

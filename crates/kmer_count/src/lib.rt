@@ -4,12 +4,14 @@
 //! that occurs often enough, in byte order, with the number of places at which it stands.
 //!
 //! - `tally`: how often each k-mer occurs.
-//! - `text`: the rows of a count.
+//! - `count`: the text of a count.
+//!
+//! What the text of a count is says `kmer_rows`, which also writes its rows.
 #![tactic(auto)]
 
+mod count;
 mod tally;
 #[cfg(test)]
 mod tests;
-mod text;
 
-pub use text::count_text;
+pub use count::count_text;

@@ -6,7 +6,8 @@ ghost use Rattle.std.specs.BTreeMap.{get};
 ghost use Rattle.kmer_text.specs.Kmers.{IsKmerLength, number_of};
 ghost use Rattle.kmer_text.specs.Letters.{are_letters};
 ghost use Rattle.kmer_text.specs.Windows.{windows, all_windows, total};
-ghost use Rattle.kmer_count.specs.Tally.{raised, times, held, Adds, Counts};
+ghost use Rattle.kmer_rows.specs.Counts.{times};
+ghost use Rattle.kmer_count.specs.Tally.{raised, held, Adds, Counts};
 
 use bcl_words::NoMemory;
 use kmer_text::{Kmer, Lines, Windows};

@@ -6,18 +6,14 @@ ghost use Rattle.std.specs.Ordering.{nat_cmp};
 ghost use Rattle.std.specs.BTreeMap.{get};
 ghost use Rattle.kmer_text.specs.Kmers.{IsKmerLength, word_of};
 ghost use Rattle.kmer_text.specs.Nodes.{bad_node};
-ghost use Rattle.kmer_walk.specs.Keys.{first_place, first_conflict};
-ghost use Rattle.kmer_walk.specs.Contigs.{is_start, starts, contig, contigs, text_of, contig_text};
+ghost use Rattle.kmer_paths.specs.Keys.{first_place, first_conflict};
+ghost use Rattle.kmer_paths.specs.Contigs.{is_start, starts, contig, contigs, text_of, contig_text};
 
-use crate::next::{NO_NEIGHBOUR, nexts_of};
-use crate::walk::contig_of;
-use crate::{Firsts, WalkFault, firsts_of};
-use bcl_words::NoMemory;
+use crate::next::nexts_of;
+use crate::{Firsts, firsts_of};
+use kmer_paths::{MAX_TEXT, NO_NEIGHBOUR, WalkFault, contig_of};
 use kmer_text::{Lines, node_of};
 use std::alloc::Global;
-
-/// The most bytes of a text of contigs, with a newline behind each.
-pub const MAX_TEXT: usize = 1 << 26;
 
 /// Whether a line is the first of its key and has no neighbour behind it.
 fn is_start(lines: &Lines, k: u32, firsts: &Firsts, place: u32) -> bool
@@ -87,16 +83,4 @@ pub fn plain_contigs(alloc: Global, lines: &Lines, k: u32) -> Result<Vec<Vec<u8>
     let mut texts = contigs_of(alloc, lines, k, &firsts)?;
     texts.sort_unstable();
     Ok(texts)
-}
-
-/// A line for each text.
-pub fn text_of(alloc: Global, texts: &[Vec<u8>]) -> Result<Vec<u8>, NoMemory>
-    ensures { IfOk result (λ all. all.items ≡ text_of (map (λ text. text.items) texts.now)) }
-{
-    let mut all = Vec::new(alloc);
-    for text in texts {
-        all.extend_from_slice(text)?;
-        all.push(b'\n')?;
-    }
-    Ok(all)
 }

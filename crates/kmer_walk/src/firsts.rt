@@ -6,10 +6,10 @@ ghost use Rattle.std.specs.Ordering.{nat_cmp};
 ghost use Rattle.std.specs.BTreeMap.{get};
 ghost use Rattle.kmer_text.specs.Kmers.{IsKmerLength, word_of};
 ghost use Rattle.kmer_text.specs.Nodes.{bad_node, line_at};
-ghost use Rattle.kmer_walk.specs.Keys.{agree, first_place, first_conflict};
+ghost use Rattle.kmer_paths.specs.Keys.{agree, first_place, first_conflict};
 
-use crate::WalkFault;
 use bcl_words::NoMemory;
+use kmer_paths::WalkFault;
 use kmer_text::{Kmer, Lines, node_of};
 use std::alloc::Global;
 use std::collections::BTreeMap;

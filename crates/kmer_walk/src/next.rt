@@ -1,33 +1,19 @@
 //! The line behind each line.
 
-ghost use Rattle.std.specs.Prelude.{◌≡◌, ◌≢◌, ℕ, ◌+◌, ◌*◌, ◌%◌, ◌-◌, ◌^◌, ◌<◌, None, length, IfOk};
+ghost use Rattle.std.specs.Prelude.{◌≡◌, ◌≢◌, ℕ, ◌^◌, ◌<◌, None, length, IfOk};
 ghost use Rattle.std.specs.Ordering.{nat_cmp};
 ghost use Rattle.std.specs.BTreeMap.{get};
 ghost use Rattle.kmer_text.specs.Kmers.{IsKmerLength, word_of};
 ghost use Rattle.kmer_text.specs.Nodes.{bad_node, line_at};
-ghost use Rattle.kmer_walk.specs.Keys.{first_place};
-ghost use Rattle.kmer_walk.specs.Walks.{next_place};
-ghost use Rattle.kmer_walk.specs.Nexts.{KnowsNexts};
+ghost use Rattle.kmer_paths.specs.Keys.{first_place};
+ghost use Rattle.kmer_paths.specs.Walks.{next_place};
+ghost use Rattle.kmer_paths.specs.Nexts.{KnowsNexts};
 
 use crate::Firsts;
 use bcl_words::NoMemory;
-use kmer_text::{Kmer, Lines, node_of};
+use kmer_paths::{NO_NEIGHBOUR, key_behind};
+use kmer_text::{Lines, node_of};
 use std::alloc::Global;
-
-/// The code of an extension without a neighbour.
-pub(crate) const NO_NEIGHBOUR: u8 = 4;
-
-/// The key with the letter of a digit behind it, and without its first letter.
-fn shifted(key: Kmer, k: u32, digit: u8) -> Kmer
-    requires k { IsKmerLength k }
-    requires digit { digit < 4 }
-    ensures { result ≡ key % 4 ^ (k - 1) * 4 + digit }
-{
-    let rest = key.bits & ((1 << (2 * (k - 1))) - 1);
-    Kmer {
-        bits: rest * 4 + digit as u64,
-    }
-}
 
 /// The place of the line behind a line. An empty line has none.
 fn next_of(lines: &Lines, k: u32, firsts: &Firsts, place: u32) -> Option<u32>
@@ -41,7 +27,7 @@ fn next_of(lines: &Lines, k: u32, firsts: &Firsts, place: u32) -> Option<u32>
     if pair.1.forward == NO_NEIGHBOUR {
         return None;
     }
-    firsts.get(&shifted(pair.0, k, pair.1.forward)).copied()
+    firsts.get(&key_behind(pair.0, k, pair.1.forward)).copied()
 }
 
 /// The place of the line behind each line, so that a walk goes on without a look-up.

@@ -5,7 +5,7 @@ use Rattle.kmer_text.specs.Lines.{lines}
 use Rattle.kmer_text.specs.Nodes.{bad_node}
 use Rattle.std.specs.declared.vec.Vec.{Vec}
 use Rattle.std.specs.declared.alloc.Global.{Global}
-use Rattle.kmer_walk.specs.Contigs.{text_of}
+use Rattle.kmer_paths.specs.Contigs.{text_of}
 use Rattle.bcl_run.specs.Verdict.{Text}
 use Rattle.bcl_run.proofs.Verdicts.{contig_cut_excuse, node_excuse, walk_excuse, contig_answers}
 use Rattle.bcl_run.proofs.answer.walked.Goals as goal

@@ -3,7 +3,8 @@ use Rattle.std.specs.Ordering.{nat_cmp}
 use Rattle.std.specs.BTreeMap.{get}
 use Rattle.kmer_text.specs.Kmers.{number_of}
 use Rattle.kmer_text.specs.Windows.{windows}
-use Rattle.kmer_count.specs.Tally.{times, raised, held}
+use Rattle.kmer_rows.specs.Counts.{times}
+use Rattle.kmer_count.specs.Tally.{raised, held}
 use Rattle.kmer_count.proofs.Raised.{raised-raised, raised-zero, unwrap_or-raised, times-cons, times-append, times-le-length, held_push, held_settled}
 use Rattle.kmer_count.proofs.tally.count_line.Goals as goal
 

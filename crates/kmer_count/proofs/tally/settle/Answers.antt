@@ -2,7 +2,8 @@ use Rattle.std.proofs.Common.{◌≡◌, ◌∙◌, ◌+◌, [], ◌∷◌, take
 use Rattle.std.specs.Ordering.{nat_cmp}
 use Rattle.std.specs.BTreeMap.{get}
 use Rattle.std.proofs.lemmas.List.{take_all}
-use Rattle.kmer_count.specs.Tally.{raised, times}
+use Rattle.kmer_rows.specs.Counts.{times}
+use Rattle.kmer_count.specs.Tally.{raised}
 use Rattle.kmer_count.proofs.Raised.{raised-raised, raised-zero, unwrap_or-raised, times_itself, times_more, times-take-le, times-IsPermutation}
 use Rattle.kmer_count.proofs.tally.settle.Goals as goal
 

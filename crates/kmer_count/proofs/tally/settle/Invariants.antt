@@ -1,7 +1,8 @@
 use Rattle.std.proofs.Common.{◌≡◌, ℕ, take}
 use Rattle.std.specs.Ordering.{nat_cmp}
 use Rattle.std.specs.BTreeMap.{get}
-use Rattle.kmer_count.specs.Tally.{raised, times}
+use Rattle.kmer_rows.specs.Counts.{times}
+use Rattle.kmer_count.specs.Tally.{raised}
 use Rattle.kmer_count.proofs.tally.settle.Given as goal
 
 -- the numbers so far are counted

@@ -7,7 +7,8 @@ use Rattle.kmer_text.specs.Kmers.{number_of}
 use Rattle.kmer_text.specs.Letters.{are_letters}
 use Rattle.kmer_text.specs.Windows.{windows, all_windows}
 use Rattle.kmer_text.proofs.Runs.{all_windows_more}
-use Rattle.kmer_count.specs.Tally.{raised, times, held}
+use Rattle.kmer_rows.specs.Counts.{times}
+use Rattle.kmer_count.specs.Tally.{raised, held}
 use Rattle.kmer_count.proofs.Raised.{Counts-nil, raised_append, raised-zero, unwrap_or-raised, times-le-length, windows_room}
 use Rattle.kmer_count.proofs.tally.tally_of.Goals as goal
 

@@ -4,8 +4,8 @@ use Rattle.std.proofs.lemmas.List.Elements.{All-replicate}
 use Rattle.std.proofs.lemmas.Result.{err_from_is_err_and}
 use Rattle.std.specs.declared.vec.Vec.{Vec}
 use Rattle.std.specs.declared.alloc.Global.{Global}
-use Rattle.kmer_walk.specs.declared.fault.WalkFault.TheVariants.{TooLong}
-use Rattle.kmer_walk.proofs.Starts.{found, bytes_of, found-other, found-start, bytes-start, bytes-rise}
+use Rattle.kmer_paths.specs.declared.fault.WalkFault.TheVariants.{TooLong}
+use Rattle.kmer_paths.proofs.Starts.{found, bytes_of, found-other, found-start, bytes-start, bytes-rise}
 use Rattle.kmer_walk.proofs.contigs.contigs_of.Goals as goal
 
 pub loop-place-init : goal.loop-place-init

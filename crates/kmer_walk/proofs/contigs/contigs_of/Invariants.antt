@@ -1,6 +1,6 @@
 use Rattle.std.proofs.Common.{◌≡◌, ◌+◌, ◌^◌, ◌≤◌, length, map}
 use Rattle.std.specs.List.{All}
-use Rattle.kmer_walk.proofs.Starts.{found, bytes_of}
+use Rattle.kmer_paths.proofs.Starts.{found, bytes_of}
 use Rattle.kmer_walk.proofs.contigs.contigs_of.Given as goal
 
 -- the contigs of the starts so far are there, and the room is what they leave

@@ -3,10 +3,10 @@ use Rattle.std.specs.Option.{option_map_or}
 use Rattle.std.specs.Ordering.{nat_cmp}
 use Rattle.std.specs.BTreeMap.{get}
 use Rattle.kmer_text.specs.Nodes.{line_at}
-use Rattle.kmer_walk.specs.Keys.{first_place}
-use Rattle.kmer_walk.specs.Walks.{backward}
-use Rattle.kmer_walk.proofs.Conflicts.{first_of_key}
-use Rattle.kmer_walk.proofs.NextKeys.{end-from_code}
+use Rattle.kmer_paths.specs.Keys.{first_place}
+use Rattle.kmer_paths.specs.Walks.{backward}
+use Rattle.kmer_paths.proofs.Conflicts.{first_of_key}
+use Rattle.kmer_paths.proofs.NextKeys.{end-from_code}
 use Rattle.kmer_walk.proofs.contigs.is_start.Goals as goal
 
 pub returns-in-Some-get : goal.returns-in-Some-get

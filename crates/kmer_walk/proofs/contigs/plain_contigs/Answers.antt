@@ -1,7 +1,7 @@
 use Rattle.std.proofs.Common.{◌∙◌, map, arith, ap}
 use Rattle.std.proofs.lemmas.Result.{err_from_is_err_and}
-use Rattle.kmer_walk.specs.Contigs.{starts, contig, contigs, in_byte_order}
-use Rattle.kmer_walk.proofs.ByteOrder.{sorted_texts, bytes-sorted}
+use Rattle.kmer_paths.specs.Contigs.{starts, contig, contigs, in_byte_order}
+use Rattle.kmer_paths.proofs.ByteOrder.{sorted_texts, bytes-sorted}
 use Rattle.kmer_walk.proofs.contigs.plain_contigs.Goals as goal
 
 pub returns-in_err-texts-clause-too_long : goal.returns-in_err-texts-clause-too_long

@@ -4,9 +4,9 @@ use Rattle.std.specs.Ordering.{nat_cmp}
 use Rattle.std.specs.BTreeMap.{get}
 use Rattle.kmer_text.specs.Kmers.{word_of}
 use Rattle.kmer_text.specs.Nodes.{line_at}
-use Rattle.kmer_walk.specs.Keys.{has_key, conflicts}
-use Rattle.kmer_walk.proofs.Places.{position-other, position-first, has_key-empty}
-use Rattle.kmer_walk.proofs.Conflicts.{firsts-more, first-of-line, first_is_line, conflicts-empty, conflicts-is}
+use Rattle.kmer_paths.specs.Keys.{has_key, conflicts}
+use Rattle.kmer_paths.proofs.Places.{position-other, position-first, has_key-empty}
+use Rattle.kmer_paths.proofs.Conflicts.{firsts-more, first-of-line, first_is_line, conflicts-empty, conflicts-is}
 use Rattle.kmer_walk.proofs.firsts.firsts_of.Goals as goal
 
 pub loop-i-preserved-in_default : goal.loop-i-preserved-in_default

@@ -3,7 +3,7 @@ use Rattle.std.specs.List.{position}
 use Rattle.std.specs.Ordering.{nat_cmp}
 use Rattle.std.specs.BTreeMap.{get}
 use Rattle.kmer_text.specs.Kmers.{word_of}
-use Rattle.kmer_walk.specs.Keys.{first_place, conflicts}
+use Rattle.kmer_paths.specs.Keys.{first_place, conflicts}
 use Rattle.kmer_walk.proofs.firsts.firsts_of.Given as goal
 
 -- the first line of each key among the lines so far, of which none conflicts

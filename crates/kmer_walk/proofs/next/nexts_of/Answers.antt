@@ -2,7 +2,7 @@ use Rattle.std.proofs.Common.{◌≡◌, ◌≢◌, ◌∙◌, [], ◌∷◌, �
 use Rattle.std.proofs.lemmas.List.{get_or_append_left}
 use Rattle.std.proofs.Math.Seq.{get_or-append_seam}
 use Rattle.kmer_text.specs.Nodes.{line_at}
-use Rattle.kmer_walk.specs.Walks.{next_place}
+use Rattle.kmer_paths.specs.Walks.{next_place}
 use Rattle.kmer_walk.proofs.next.nexts_of.Goals as goal
 
 pub loop-place-init : goal.loop-place-init

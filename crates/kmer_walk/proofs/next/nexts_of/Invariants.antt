@@ -1,6 +1,6 @@
 use Rattle.std.proofs.Common.{◌≡◌, ◌≢◌, ℕ, ◌<◌, None, length, get_or}
 use Rattle.kmer_text.specs.Nodes.{line_at}
-use Rattle.kmer_walk.specs.Walks.{next_place}
+use Rattle.kmer_paths.specs.Walks.{next_place}
 use Rattle.kmer_walk.proofs.next.nexts_of.Given as goal
 
 -- the next places of the lines so far

@@ -1,0 +1,3 @@
+pub mod Occurs
+pub mod Entries
+pub mod Texts

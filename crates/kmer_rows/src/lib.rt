@@ -1,0 +1,16 @@
+//! The text of a count, from counts that are sorted, however they were counted.
+//!
+//! Its one contract for the layer above: `push_rows` writes a row for each entry of a list that is counted often enough,
+//! and by `rows_are_the_text` the rows of all counts of the lines are the text of the count.
+//!
+//! - `rows`: the rows of a list of counts.
+//! - `law`: that they are the text of the count.
+#![tactic(auto)]
+
+mod law;
+mod rows;
+#[cfg(test)]
+mod tests;
+
+pub use law::rows_are_the_text;
+pub use rows::push_rows;

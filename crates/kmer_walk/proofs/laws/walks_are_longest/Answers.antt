@@ -1,8 +1,0 @@
-use Rattle.kmer_walk.proofs.Walks.{walk-goes, walk-longest}
-use Rattle.kmer_walk.proofs.laws.walks_are_longest.Goals as goal
-
-pub returns-clause-goes : goal.returns-clause-goes
-returns-clause-goes c = walk-goes
-
-pub returns-clause-longest : goal.returns-clause-longest
-returns-clause-longest c = walk-longest
