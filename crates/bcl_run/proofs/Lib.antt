@@ -1,4 +1,3 @@
-pub mod Numerals
-pub mod Reading
 pub mod Verdicts
+pub mod Owing
 pub mod Told

@@ -2,12 +2,12 @@
 use Rattle.std.proofs.Common.{◌≡◌, ℕ, List, Option, None, Some, IfSome, Result, Ok, Err, OnOk, OnErr, subst, arith}
 use Rattle.std.specs.Io.KnownBytes.{Appends}
 use Rattle.bcl_io.specs.Faults.{Rose}
-use Rattle.bcl_run.specs.declared.refusal.Refusal.{Refusal}
-use Rattle.bcl_run.specs.declared.stop.Stop.{Stop}
-use Rattle.bcl_run.specs.declared.stop.Stop.TheVariants as stops
-use Rattle.bcl_run.specs.Message.{refusal_message, message_of}
+use Rattle.bcl_message.specs.declared.refusal.Refusal.{Refusal}
+use Rattle.bcl_message.specs.declared.stop.Stop.{Stop}
+use Rattle.bcl_message.specs.declared.stop.Stop.TheVariants as stops
+use Rattle.bcl_message.specs.Message.{refusal_message, message_of}
 use Rattle.bcl_run.specs.Verdict.{Refused, IsVerdict}
-use Rattle.bcl_run.specs.Stop.{status_of}
+use Rattle.bcl_message.specs.Stop.{status_of}
 use Rattle.bcl_run.specs.Owed.{Owed, Devices, Tells}
 use Rattle.bcl_run.proofs.Verdicts.{one_verdict}
 

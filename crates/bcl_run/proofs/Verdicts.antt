@@ -23,17 +23,18 @@ use Rattle.kmer_paths.specs.declared.fault.WalkFault.TheVariants as walks
 use Rattle.kmer_paths.specs.Keys.{first_conflict}
 use Rattle.kmer_paths.specs.Contigs.{contig_text}
 use Rattle.kmer_rows.specs.Count.{count_text}
-use Rattle.bcl_run.specs.declared.refusal.Refusal.{Refusal}
-use Rattle.bcl_run.specs.declared.refusal.Refusal.TheVariants.{TooManyBytes, TooManyLines, Line, TooManyWindows, Conflict, TooMuchText}
-use Rattle.bcl_run.specs.declared.settings.Settings.{Settings}
-use Rattle.bcl_run.specs.declared.settings.Settings.TheVariants.{Count, Contigs}
-use Rattle.bcl_run.specs.declared.stop.Stop.{Stop}
-use Rattle.bcl_run.specs.declared.stop.Stop.TheVariants as stops
-use Rattle.bcl_run.specs.Settings.{Reads}
+use Rattle.bcl_message.specs.declared.refusal.Refusal.{Refusal}
+use Rattle.bcl_message.specs.declared.refusal.Refusal.TheVariants.{TooManyBytes, TooManyLines, Line, TooManyWindows, Conflict, TooMuchText}
+use Rattle.bcl_settings.specs.declared.settings.Settings.{Settings}
+use Rattle.bcl_settings.specs.declared.settings.Settings.TheVariants.{Count, Contigs, Drill}
+use Rattle.bcl_message.specs.declared.stop.Stop.{Stop}
+use Rattle.bcl_message.specs.declared.stop.Stop.TheVariants as stops
+use Rattle.bcl_settings.specs.Settings.{AsksFor, Reads}
 use Rattle.bcl_run.specs.Verdict.{Verdict, Usage, Text, Refused, IsVerdict, verdict, counted, walked, unless, within_limits, count_refusals, conflict_at, contig_refusals}
-use Rattle.bcl_run.specs.Stop.{status_of, stop_of_read, stop_of_cut, stop_of_letters, stop_of_walk}
+use Rattle.bcl_message.specs.Stop.{status_of, stop_of_read, stop_of_cut, stop_of_letters, stop_of_walk}
 use Rattle.bcl_run.specs.Owed.{Excuses, Owed, Devices, TookAll}
-use Rattle.bcl_run.proofs.Reading.{once}
+use Rattle.bcl_settings.proofs.Asked.{drill_unasked}
+use Rattle.bcl_settings.proofs.Reading.{once}
 
 -- ---- the first reason that applies
 applies : (n m : ℕ) (why : Refusal) (rest : List (Option Refusal)) → n < m → first_of (when (ltb n m) why ∷ rest) ≡ Some why
@@ -165,15 +166,16 @@ consumed_length (Some xs) None taken c = absurd c
 consumed_length (Some xs) (Some ys) taken c = omega (arith, ap length c, length-append taken ys)
 
 -- too many bytes are refused whatever is asked for
-long_refused : (settings : Settings) (bytes : List ℕ) → 2 ^ 26 < length bytes → verdict (Some settings) bytes ≡ Refused TooManyBytes
-long_refused (Count k ranks min choice hist) bytes long = count_too_long k min bytes long
-long_refused (Contigs k ranks choice) bytes long = contigs_too_long k bytes long
+long_refused : (words : List (List ℕ)) (settings : Settings) (bytes : List ℕ) → AsksFor words settings → 2 ^ 26 < length bytes → verdict (Some settings) bytes ≡ Refused TooManyBytes
+long_refused words (Count k ranks min choice hist) bytes asks long = count_too_long k min bytes long
+long_refused words (Contigs k ranks choice) bytes asks long = contigs_too_long k bytes long
+long_refused words (Drill number lines k ranks choice) bytes asks long = absurd (drill_unasked words number lines k ranks choice asks)
 
 too_large : (words : List (List ℕ)) (settings : Settings) (left new : Option (List ℕ)) (taken : List ℕ) → Reads words (Some settings) → 2 ^ 26 < length taken → Consumes left new taken
     → IfSome left (λ bytes. IsVerdict words bytes (Refused TooManyBytes))
 too_large words settings None new taken asks long c = tt
 too_large words settings (Some bytes) new taken asks long c =
-    (Some settings, asks, long_refused settings bytes (omega (arith, consumed_length (Some bytes) new taken c)))
+    (Some settings, asks, long_refused words settings bytes asks (omega (arith, consumed_length (Some bytes) new taken c)))
 
 pub read_owes : (words : List (List ℕ)) (d : Devices) (settings : Settings) (fault : ReadFault) → Reads words (Some settings)
     → (fault ≡ reads.Failed → Rose d.read_faults_before d.read_faults_after) → ((fault ≡ reads.Failed → ⊥) → d.read_faults_after ≡ d.read_faults_before)

@@ -2,9 +2,9 @@
 use Rattle.std.specs.Prelude.{◌≡◌, ℕ, List, Option, None, Result, Ok, Err, IfSome, take}
 use Rattle.std.specs.Io.KnownBytes.{Appends, IsAtEnd}
 use Rattle.bcl_io.specs.Faults.{Rose}
-use Rattle.bcl_run.specs.declared.stop.Stop.{Stop}
-use Rattle.bcl_run.specs.declared.stop.Stop.TheVariants as stops
-use Rattle.bcl_run.specs.Settings.{Reads}
+use Rattle.bcl_message.specs.declared.stop.Stop.{Stop}
+use Rattle.bcl_message.specs.declared.stop.Stop.TheVariants as stops
+use Rattle.bcl_settings.specs.Settings.{Reads}
 use Rattle.bcl_run.specs.Verdict.{Verdict, Text, Refused, IsVerdict}
 
 -- what the devices of a run show, before it and after it

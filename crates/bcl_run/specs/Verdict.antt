@@ -10,11 +10,11 @@ use Rattle.kmer_text.specs.Nodes.{bad_node}
 use Rattle.kmer_paths.specs.Keys.{first_conflict}
 use Rattle.kmer_paths.specs.Contigs.{contig_text}
 use Rattle.kmer_rows.specs.Count.{count_text}
-use Rattle.bcl_run.specs.declared.refusal.Refusal.{Refusal}
-use Rattle.bcl_run.specs.declared.refusal.Refusal.TheVariants.{TooManyBytes, TooManyLines, Line, TooManyWindows, Conflict, TooMuchText}
-use Rattle.bcl_run.specs.declared.settings.Settings.{Settings}
-use Rattle.bcl_run.specs.declared.settings.Settings.TheVariants.{Count, Contigs}
-use Rattle.bcl_run.specs.Settings.{Reads}
+use Rattle.bcl_message.specs.declared.refusal.Refusal.{Refusal}
+use Rattle.bcl_message.specs.declared.refusal.Refusal.TheVariants.{TooManyBytes, TooManyLines, Line, TooManyWindows, Conflict, TooMuchText}
+use Rattle.bcl_settings.specs.declared.settings.Settings.{Settings}
+use Rattle.bcl_settings.specs.declared.settings.Settings.TheVariants.{Count, Contigs, Drill}
+use Rattle.bcl_settings.specs.Settings.{Reads}
 
 pub data Verdict : Type 0 where
   Usage : Verdict
@@ -59,10 +59,12 @@ counted k least bytes = unless (first_of (count_refusals k bytes)) (count_text k
 abbrev pub walked : ℕ → List ℕ → Verdict
 walked k bytes = unless (first_of (contig_refusals k bytes)) (contig_text k (lines bytes))
 
+-- the verdict on settings and bytes. No words ask for a drill yet
 abbrev pub verdict : Option Settings → List ℕ → Verdict
 verdict None bytes = Usage
 verdict (Some (Count k ranks min choice hist)) bytes = counted k min bytes
 verdict (Some (Contigs k ranks choice)) bytes = walked k bytes
+verdict (Some (Drill number lines k ranks choice)) bytes = Usage
 
 -- the verdict on words and bytes
 abbrev pub IsVerdict : List (List ℕ) → List ℕ → Verdict → Type 0

@@ -3,11 +3,11 @@
 ghost use Rattle.std.specs.Prelude.{◌≡◌, ◌^◌, ◌<◌, ◌≤◌, length, IfOk, IfErr, Some};
 ghost use Rattle.kmer_text.specs.Kmers.{IsKmerLength};
 ghost use Rattle.bcl_run.specs.Verdict.{Text, counted, walked, verdict};
-ghost use Rattle.bcl_run.specs.Settings.{IsOffered};
+ghost use Rattle.bcl_settings.specs.Settings.{IsAsked};
 ghost use Rattle.bcl_run.specs.Owed.{Excuses};
 
-use crate::Settings;
-use crate::stop::Stop;
+use bcl_message::Stop;
+use bcl_settings::Settings;
 use kmer_count::count_text;
 use kmer_text::{Lines, check_letters, check_nodes};
 use kmer_walk::{plain_contigs, text_of};
@@ -44,7 +44,7 @@ fn walked(alloc: Global, k: u32, bytes: Vec<u8>) -> Result<Vec<u8>, Stop>
 
 /// The text that the settings ask for of these bytes.
 pub(crate) fn answer(alloc: Global, settings: &Settings, bytes: Vec<u8>) -> Result<Vec<u8>, Stop>
-    requires offered { IsOffered settings.now }
+    requires asked { IsAsked settings.now }
     requires short { length bytes.items ≤ 2 ^ 26 }
     ensures text { IfOk result (λ text. verdict (Some settings.now) bytes.items ≡ Text text.items) }
     ensures stop { IfErr result (Excuses (verdict (Some settings.now) bytes.items)) }
@@ -52,5 +52,6 @@ pub(crate) fn answer(alloc: Global, settings: &Settings, bytes: Vec<u8>) -> Resu
     match *settings {
         Settings::Count { k, min, .. } => counted(alloc, k, min, bytes),
         Settings::Contigs { k, .. } => walked(alloc, k, bytes),
+        Settings::Drill { .. } => unreachable!(),
     }
 }

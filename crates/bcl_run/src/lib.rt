@@ -4,25 +4,17 @@
 //! function of the words and of all that the source had left; and each other status says why nothing more was written.
 //!
 //! - `program`: `top`, the whole program over its devices.
-//! - `settings`: what the words ask for.
-//! - `number`: a number in a word.
 //! - `answer`: the text that an input asks for, or why it is refused.
-//! - `refusal`: why an input is refused.
-//! - `stop`: why a run ends without its text, and the status that says so.
-//! - `message`: what the program says of a run without a text.
+//!
+//! What the words ask for says `bcl_settings`, and what is said of a run without a text `bcl_message`.
 #![tactic(auto)]
 
 mod answer;
-mod message;
-mod number;
 mod program;
-mod refusal;
-mod settings;
-mod stop;
 #[cfg(test)]
 mod tests;
 
 pub use answer::MAX_BYTES;
+pub use bcl_message::Refusal;
+pub use bcl_settings::{Choice, Settings, reads_once, settings_of};
 pub use program::{Book, Ended, top};
-pub use refusal::Refusal;
-pub use settings::{Choice, Settings, reads_once, settings_of};

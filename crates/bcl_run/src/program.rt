@@ -3,17 +3,17 @@
 ghost use Rattle.std.specs.Prelude.{◌≡◌, ◌≢◌, ℕ, ◌≤◌, ◌⊎◌, ◌↔◌, List, take, map, string_bytes, IfSome, Some, None, IsErrOf};
 ghost use Rattle.std.specs.Io.KnownBytes.{Appends, IsAtEnd};
 ghost use Rattle.bcl_io.specs.Faults.{Rose};
-ghost use Rattle.bcl_run.specs.Settings.{Reads};
+ghost use Rattle.bcl_settings.specs.Settings.{AsksFor, IsAsked, Reads};
 ghost use Rattle.bcl_run.specs.Verdict.{Text, Refused, IsVerdict};
-ghost use Rattle.bcl_run.specs.declared.refusal.Refusal.{Refusal as AnyRefusal};
-ghost use Rattle.bcl_run.specs.declared.stop.Stop.TheVariants as stops;
-ghost use Rattle.bcl_run.specs.Message.{refusal_message, usage_message, read_fault_message, write_fault_message, no_memory_message};
+ghost use Rattle.bcl_message.specs.declared.refusal.Refusal.{Refusal as AnyRefusal};
+ghost use Rattle.bcl_message.specs.declared.stop.Stop.TheVariants as stops;
+ghost use Rattle.bcl_message.specs.Stop.{status_of};
+ghost use Rattle.bcl_message.specs.Message.{refusal_message, usage_message, message_of, read_fault_message, write_fault_message, no_memory_message};
 ghost use Rattle.bcl_run.specs.Owed.{Tells, Owed, WroteNothing, devices};
 
 use crate::answer::{MAX_BYTES, answer};
-use crate::message::tell;
-use crate::settings_of;
-use crate::stop::Stop;
+use bcl_message::{Stop, tell};
+use bcl_settings::{Settings, settings_of};
 use bcl_io::{Sink, Source, read_all, write_all};
 use std::alloc::Global;
 use std::thread::Threads;
@@ -32,25 +32,31 @@ pub struct Ended {
     pub book: Book,
 }
 
-/// Reads the input and writes the text. No memory is taken before the words are read, nor from the first write on.
+/// Reads the input and writes the text that the settings ask for. From the first write on no memory is taken.
 fn run<S: Source, O: Sink>(
     alloc: Global,
-    words: &[String],
+    settings: &Settings,
     src: &mut S,
     out: &mut O,
 ) -> Result<(), Stop>
-    ensures owed { Owed (map string_bytes words.now) (devices S.left S.faults O.taken O.faults src.old src.new out.old out.new) result }
-    ensures usage { Reads (map string_bytes words.now) None → IsErrOf result stops.Usage }
-    ensures unread { IsErrOf result stops.Usage → src.new ≡ src.old }
+    requires asked { IsAsked settings.now }
+    ensures owed { (words : List (List ℕ)) → AsksFor words settings.now → Owed words (devices S.left S.faults O.taken O.faults src.old src.new out.old out.new) result }
+    ensures no_usage { IsErrOf result stops.Usage → ⊥ }
     ensures untouched { WroteNothing result → out.new ≡ out.old }
 {
-    let Some(settings) = settings_of(words) else {
-        return Err(Stop::Usage);
-    };
     let bytes = read_all(alloc, src, MAX_BYTES)?;
-    let text = answer(alloc, &settings, bytes)?;
+    let text = answer(alloc, settings, bytes)?;
     write_all(out, &text)?;
     Ok(())
+}
+
+/// Says why a run has no text, and answers its status. A fault of `err` changes no status.
+fn told<E: Sink>(err: &mut E, stop: Stop) -> u8
+    ensures status { result ≡ status_of stop }
+    ensures told { Tells (E.faults err.old) (E.faults err.new) (E.taken err.old) (E.taken err.new) (message_of stop) }
+{
+    let _ = tell(err, stop);
+    stop.status()
 }
 
 /// Runs the program on the words behind its name.
@@ -110,13 +116,13 @@ pub fn top<H: Threads + Sync, S: Source, O: Sink, E: Sink>(
     ensures refuses { (bytes : List ℕ) (why : AnyRefusal) → S.left src.old ≡ Some bytes → IsVerdict (map string_bytes words.now) bytes (Refused why)
         → (Rose (S.faults src.old) (S.faults src.new) → ⊥) → (result.status ≡ 1) ⊎ (result.status ≡ 5) }
 {
-    let status = match run(alloc, words, src, out) {
-        Ok(()) => 0,
-        Err(stop) => {
-            // A fault of `err` changes no status.
-            let _ = tell(err, stop);
-            stop.status()
-        }
+    let status = match settings_of(words) {
+        // Neither the words nor the usage get an allocator, so this status takes no memory.
+        None => told(err, Stop::Usage),
+        Some(settings) => match run(alloc, &settings, src, out) {
+            Ok(()) => 0,
+            Err(stop) => told(err, stop),
+        },
     };
     Ended {
         status,

@@ -1,6 +1,6 @@
 //! The whole program over devices in memory.
 
-use crate::{Book, Choice, Settings, settings_of, top};
+use crate::{Book, top};
 use bcl_io::{MemSink, MemSource};
 use bcl_words::NoMemory;
 use std::alloc::Global;
@@ -258,26 +258,5 @@ fn a_fault_of_err_changes_no_status(rt: HostRuntime) -> Result<(), Fail> {
         assert_eq!(rt; ran.status, status, "status {status}");
         assert!(rt; ran.said.is_empty(), "status {status}");
     }
-    Ok(())
-}
-
-#[test]
-fn options_have_their_defaults(rt: HostRuntime) -> Result<(), Fail> {
-    let settings = settings_of(&words_of(rt.alloc(), "count 21")?);
-    let defaults = Settings::Count {
-        k: 21,
-        ranks: 4,
-        min: 1,
-        choice: Choice::Own,
-        hist: false,
-    };
-    assert_eq!(rt; settings, Some(defaults));
-    let settings = settings_of(&words_of(rt.alloc(), "contigs 21")?);
-    let defaults = Settings::Contigs {
-        k: 21,
-        ranks: 4,
-        choice: Choice::Own,
-    };
-    assert_eq!(rt; settings, Some(defaults));
     Ok(())
 }

@@ -1,7 +1,7 @@
 use Rattle.std.proofs.Common.{◌≡◌, ◌⊎◌, map, string_bytes, sym, ◌∙◌, subst, ℕ}
 use Rattle.bcl_run.specs.Owed.{devices}
 use Rattle.bcl_run.proofs.Verdicts.{status_refused, completes, refuses_it, never_text}
-use Rattle.bcl_run.specs.Message.{message_of}
+use Rattle.bcl_message.specs.Message.{message_of}
 use Rattle.bcl_run.proofs.Told.{tells, refusal_told}
 use Rattle.bcl_run.proofs.program.top.Goals as goal
 
@@ -10,14 +10,14 @@ returns-in-Ok-clause-refuses g c bytes why told verdict no_fault =
     let S = g.S.Source in
     let O = g.O.Sink in
     let d = devices S.left S.faults O.taken O.faults c.args.src.now c.run.new.src c.args.out.now c.run.new.out in
-    absurd (never_text (map string_bytes c.args.words.now) d bytes told no_fault why c.in-Ok.ensures.owed.2 verdict)
+    absurd (never_text (map string_bytes c.args.words.now) d bytes told no_fault why (c.in-Ok.ensures.owed (map string_bytes c.args.words.now) c.in-Some.ensures).2 verdict)
 
 pub returns-in-Err-clause-refused : goal.returns-in-Err-clause-refused
 returns-in-Err-clause-refused g c is =
     let S = g.S.Source in
     let O = g.O.Sink in
     let d = devices S.left S.faults O.taken O.faults c.args.src.now c.run.new.src c.args.out.now c.run.new.out in
-    status_refused (map string_bytes c.args.words.now) d c.in-Err.stop c.in-Err.ensures.owed (sym c.status-status.ensures ∙ is)
+    status_refused (map string_bytes c.args.words.now) d c.in-Err.stop (c.in-Err.ensures.owed (map string_bytes c.args.words.now) c.in-Some.ensures) (sym c.told.ensures.status ∙ is)
 
 pub returns-in-Err-clause-complete : goal.returns-in-Err-clause-complete
 returns-in-Err-clause-complete g c bytes text told verdict no_fault no_write =
@@ -25,7 +25,7 @@ returns-in-Err-clause-complete g c bytes text told verdict no_fault no_write =
     let O = g.O.Sink in
     let d = devices S.left S.faults O.taken O.faults c.args.src.now c.run.new.src c.args.out.now c.run.new.out in
     let P : ℕ → Type 0 = λ status. (status ≡ 0) ⊎ (status ≡ 5) in
-    subst P (sym c.status-status.ensures) (completes (map string_bytes c.args.words.now) d bytes told no_fault c.in-Err.stop text c.in-Err.ensures.owed verdict no_write)
+    subst P (sym c.told.ensures.status) (completes (map string_bytes c.args.words.now) d bytes told no_fault c.in-Err.stop text (c.in-Err.ensures.owed (map string_bytes c.args.words.now) c.in-Some.ensures) verdict no_write)
 
 pub returns-in-Err-clause-refuses : goal.returns-in-Err-clause-refuses
 returns-in-Err-clause-refuses g c bytes why told verdict no_fault =
@@ -33,7 +33,7 @@ returns-in-Err-clause-refuses g c bytes why told verdict no_fault =
     let O = g.O.Sink in
     let d = devices S.left S.faults O.taken O.faults c.args.src.now c.run.new.src c.args.out.now c.run.new.out in
     let P : ℕ → Type 0 = λ status. (status ≡ 1) ⊎ (status ≡ 5) in
-    subst P (sym c.status-status.ensures) (refuses_it (map string_bytes c.args.words.now) d bytes told no_fault c.in-Err.stop why c.in-Err.ensures.owed verdict)
+    subst P (sym c.told.ensures.status) (refuses_it (map string_bytes c.args.words.now) d bytes told no_fault c.in-Err.stop why (c.in-Err.ensures.owed (map string_bytes c.args.words.now) c.in-Some.ensures) verdict)
 
 pub returns-in-Err-clause-refusal_told : goal.returns-in-Err-clause-refusal_told
 returns-in-Err-clause-refusal_told g c is =
@@ -41,8 +41,7 @@ returns-in-Err-clause-refusal_told g c is =
     let O = g.O.Sink in
     let E = g.E.Sink in
     let err = c.args.err.now in
-    let err' = c.tell.new.err in
-    let stop = c.in-Err.stop in
+    let err' = c.told.new.err in
     let d = devices S.left S.faults O.taken O.faults c.args.src.now c.run.new.src c.args.out.now c.run.new.out in
-    let said = tells (E.faults err) (E.faults err') (E.taken err) (E.taken err') c.tell.result (message_of stop) c.tell.ensures.message c.tell.ensures.failed in
-    refusal_told (E.faults err) (E.faults err') (E.taken err) (E.taken err') (map string_bytes c.args.words.now) d stop c.in-Err.ensures.owed (sym c.status-status.ensures ∙ is) said
+    refusal_told (E.faults err) (E.faults err') (E.taken err) (E.taken err') (map string_bytes c.args.words.now) d c.in-Err.stop (c.in-Err.ensures.owed (map string_bytes c.args.words.now) c.in-Some.ensures)
+    (sym c.told.ensures.status ∙ is) c.told.ensures.told
