@@ -12,9 +12,9 @@ ghost use Rattle.bcl_message.specs.Message.{refusal_message, usage_message, mess
 ghost use Rattle.bcl_run.specs.Owed.{Tells, Owed, WroteNothing, devices};
 
 use crate::answer::{MAX_BYTES, answer};
+use bcl_io::{Sink, Source, read_all, write_all};
 use bcl_message::{Stop, tell};
 use bcl_settings::{Settings, settings_of};
-use bcl_io::{Sink, Source, read_all, write_all};
 use std::alloc::Global;
 use std::thread::Threads;
 

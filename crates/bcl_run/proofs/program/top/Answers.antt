@@ -1,8 +1,7 @@
 use Rattle.std.proofs.Common.{◌≡◌, ◌⊎◌, map, string_bytes, sym, ◌∙◌, subst, ℕ}
 use Rattle.bcl_run.specs.Owed.{devices}
 use Rattle.bcl_run.proofs.Verdicts.{status_refused, completes, refuses_it, never_text}
-use Rattle.bcl_message.specs.Message.{message_of}
-use Rattle.bcl_run.proofs.Told.{tells, refusal_told}
+use Rattle.bcl_run.proofs.Told.{refusal_told}
 use Rattle.bcl_run.proofs.program.top.Goals as goal
 
 pub returns-in-Ok-clause-refuses : goal.returns-in-Ok-clause-refuses
