@@ -1,5 +1,5 @@
 -- The rows of the counts are the text of the count.
-use Rattle.std.proofs.Common.{◌≡◌, ◌∙◌, ℕ, zero, suc, ◌+◌, ◌^◌, ◌<◌, ◌≤◌, true, List, ◌∷◌, ◌++◌, map, ltb, leb, [], arith, sym, ap, refl, ⊎_elim, subst}
+use Rattle.std.proofs.Common.{◌≡◌, ◌∙◌, ℕ, zero, suc, ◌+◌, ◌^◌, ◌<◌, ◌≤◌, true, List, ◌∷◌, ◌++◌, map, ltb, leb, arith, sym, ap, refl, ⊎_elim, subst}
 use Rattle.std.specs.List.{range_with_len, filter, flat_map, All, AllByRecursion}
 use Rattle.std.proofs.lemmas.Grind.{flat_map-append}
 use Rattle.std.proofs.lemmas.List.Elements.{All-from_recursion, filter-append}
