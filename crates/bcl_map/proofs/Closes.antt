@@ -179,7 +179,7 @@ module _ (kw vw : ℕ) (L : Shape) (p : ℕ) (ws : List ℕ) (t : Pairs) (f : Fi
       (λ (none : value_at q t ≡ None). ⊎_elim (λ (none' : value_at q (pairs_to kw vw ws (places L)) ≡ None). none' ∙ sym none)
       (λ (there : (u : Words) × (value_at q (pairs_to kw vw ws (places L)) ≡ Some u)). absurd (none-some there.0 (sym none ∙ sound q there.0 (places L) (omega arith) there.1)))
       (value_or_not q (value_at q (pairs_to kw vw ws (places L)))))
-      (λ (there : (v : Words) × (value_at q t ≡ Some v)). let pl = f.placed q there.0 there.1 in let within = pl.within in
+      (λ (there : (v : Words) × (value_at q t ≡ Some v)). let pl = f.placed q there in let within = pl.within in
       let low : path L q pl.d < places L = mod-lt _ (omega arith) in let found = whole_at (path L q pl.d) q low pl.there in
       let same : found.0.v ≡ there.0 = some_same q found.0.v there.0 (sym found.0.valued.2 ∙ (ap (λ (k : Words). value_at k t) found.1 ∙ there.1)) in
       subst (λ (k : Words). value_at k (pairs_to kw vw ws (places L)) ≡ Some found.0.v) found.1 (complete (path L q pl.d) found.0 (places L) (omega arith) low) ∙ (ap Some same ∙ sym there.1))

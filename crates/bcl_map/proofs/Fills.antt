@@ -49,7 +49,7 @@ empty kw vw key value L n words is many = record {
     as_many = none_filled (places L);
     each = λ i below. subst (Place i) (sym (all_free (places L) i)) (record { shows = ap (λ (l : List ℕ). slice_index l (size kw vw * i + 0)) is ∙ zeros n (size kw vw * i + 0); read = refl; content = tt });
     once = λ i j k one other. absurd (some-ne-none k (sym one ∙ ap key_of (all_free (places L) i)));
-    placed = λ k v e. absurd (none_there k v e);
+    placed = λ k has. absurd (none_there k has.0 has.1);
     single = λ r x e. absurd (some-ne-none x (sym e));
     noted = λ r x e. absurd (some-ne-none x (sym e));
   };

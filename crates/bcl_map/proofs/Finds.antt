@@ -1,5 +1,5 @@
 -- The steps of a find.
-use Rattle.std.proofs.Common.{◌≡◌, ◌≢◌, ℕ, zero, suc, ◌+◌, ◌*◌, ◌<◌, ◌≤◌, List, [], ◌∷◌, length, take, get_or, slice_index, slice_set, refl, sym, ap, ◌∙◌, subst, ⊎_elim, arith, Some, None}
+use Rattle.std.proofs.Common.{◌≡◌, ◌≢◌, ℕ, zero, suc, ◌+◌, ◌*◌, ◌<◌, ◌≤◌, inl, inr, List, [], ◌∷◌, length, take, get_or, slice_index, slice_set, refl, sym, ap, ◌∙◌, subst, ⊎_elim, arith, Some}
 use Rattle.std.proofs.lemmas.List.Elements.{All-nil, All-cons}
 use Rattle.std.specs.List.{All}
 use Rattle.std.proofs.Common.{◌-◌}
@@ -20,16 +20,18 @@ use Rattle.bcl_map.specs.declared.shape.Shape.{Shape}
 use Rattle.bcl_map.specs.declared.note.Lock.{Lock}
 use Rattle.bcl_map.specs.declared.note.Lock.TheVariants.{Shown as shown, Reserved as reserved, Held as held}
 use Rattle.bcl_map.specs.declared.note.Before.{Before}
-use Rattle.bcl_map.specs.Map.{places, Words, Lawful, finding, owning, filling, home, path, next, permits, size, tag, Lies, content}
+use Rattle.bcl_map.specs.Map.{places, Words, Lawful, finding, owning, filling, home, path, next, HasPlace, permits, size, tag, Lies, content}
 use Rattle.bcl_map.specs.Cells.{Cell, free, kept, busy, key_of, used, Bars, control}
-use Rattle.bcl_map.specs.Notes.{Claim, passed, keyed, alike, mine, certain, lacking, lent, grips, many, met, Note, Has, reads, reads_all, readers, AllSay}
+use Rattle.bcl_map.specs.Notes.{Claim, passed, keyed, alike, settled, certain, lacking, lent, grips, many, met, Note, Has, Knows, reads, reads_all, readers, Says, AllSay}
 use Rattle.bcl_map.specs.Fits.{HasValue, MayWrite, Named, IsContent, PlaceOk, Fits, AreTyped, Holds}
 use Rattle.bcl_map.specs.Steps.{with_claims, Step, control_at}
 use Rattle.std.specs.Prelude.{Bool}
 use Rattle.bcl_phase.specs.Rule.{Moves}
 use Rattle.bcl_map.specs.Finds.{Typed, MaySee, walked, comparing, reading, Passes, FindsControl, FindsKey, FindsValue}
+use Rattle.bcl_map.proofs.Keys.{no_value}
 use Rattle.bcl_map.proofs.Counts.{bars_key}
 use Rattle.bcl_map.proofs.Frames.{SameAt}
+use Rattle.bcl_map.proofs.Known.{knows_passed}
 use Rattle.bcl_map.proofs.Gets.{near, shows_tag, absent_behind, absent_at_end, gets}
 
 -- ---- claims that read no place and write none
@@ -38,7 +40,7 @@ abbrev pub IsPlain : Claim → Type 0
 IsPlain (passed k d) = Unit {0}
 IsPlain (keyed k d) = Unit {0}
 IsPlain (alike k d g) = Unit {0}
-IsPlain (mine k) = Unit {0}
+IsPlain (settled k d) = Unit {0}
 IsPlain (certain k v) = Unit {0}
 IsPlain (lacking k) = Unit {0}
 IsPlain (lent i k v) = ⊥
@@ -54,7 +56,7 @@ plain_reads : (i : ℕ) (a : Claim) → IsPlain a → reads i a ≡ 0
 plain_reads i (passed k d) h = refl
 plain_reads i (keyed k d) h = refl
 plain_reads i (alike k d g) h = refl
-plain_reads i (mine k) h = refl
+plain_reads i (settled k d) h = refl
 plain_reads i (certain k v) h = refl
 plain_reads i (lacking k) h = refl
 plain_reads i (lent j k v) h = absurd h
@@ -79,6 +81,11 @@ plain_same x as' bs e plain plain' j = (
 pub walked_plain : (k : Words) (d : ℕ) → ArePlain (walked k d)
 walked_plain k zero = tt
 walked_plain k (suc d) = (tt, tt)
+
+-- a walk knows the places that it has passed
+pub walked_knows : (k : Words) (d : ℕ) → Knows k d (walked k d)
+walked_knows k zero = inl refl
+walked_knows k (suc d) = inr (suc d, omega arith, inl refl)
 
 -- ---- the words of keys and values
 
@@ -116,16 +123,12 @@ module _ (kw vw : ℕ) (op : Words → Words → Words) (L : Shape) (law : Lawfu
   one_find : All (permits L p r) (Find k ∷ [])
   one_find = All-cons (permits L p r) (Find k) [] may_find (All-nil (permits L p r))
 
-  absent : (t : Pairs) → value_at k t ≡ None → (next op L t (Find k)).0 ≡ Absent
-  absent t e = ap found e
+  absent : (t : Pairs) → (HasPlace k t → ⊥) → (next op L t (Find k)).0 ≡ Absent
+  absent t none = ap found (no_value k t none)
 
-  -- what the walk knows
-  others : (t : Pairs) (cells : List Cell) (e : ℕ) → AllSay L p t cells r (walked k d) → e < d → Bars k (get_or cells (path L k e) free)
-  others t cells e says less = by d says less
-    where
-      by : (d : ℕ) → AllSay L p t cells r (walked k d) → e < d → Bars k (get_or cells (path L k e) free)
-      by zero says less = absurd (omega arith)
-      by (suc d) says less = says.0 e less
+  -- the places that the walk has passed
+  others : (t : Pairs) (cells : List Cell) → AllSay L p t cells r (walked k d) → Says L p t cells r (passed k d)
+  others t cells says = knows_passed L p t cells r k d (walked k d) says (walked_knows k d)
 
   module _ (x : Note) (as' : List Claim) (at : x.claims ≡ as') (plain : ArePlain as') (ws : List ℕ) (t : Pairs) (notes : List Note) (is : get_elem? notes r ≡ some x) (f : Fits kw vw L p ws t notes) (w : ℕ) where
     -- on, with other claims
@@ -162,7 +165,7 @@ module _ (kw vw : ℕ) (op : Words → Words → Words) (L : Shape) (law : Lawfu
       let zero_there : slice_index ws w ≡ 0 = ok.shows ∙ ap (control L (readers (path L k d) notes)) e in
       ends x (walked k d) at plain ws t notes is f w (FindsControl kw vw op L k d x) (record {
         still = refl;
-        free = λ _. (refl, absent t (absent_behind L law kw vw p ws t notes f k d (λ e' below. others t f.cells e' says below) (ap used e)), refl);
+        free = λ _. (refl, absent t (absent_behind L law kw vw p ws t notes f k d (others t f.cells says) (ap used e)), refl);
         same_home = λ no _. absurd (no zero_there);
         other_home = λ no _. absurd (no zero_there);
       }))
@@ -177,7 +180,7 @@ module _ (kw vw : ℕ) (op : Words → Words → Words) (L : Shape) (law : Lawfu
         same_home = λ _ _. (refl, refl);
         other_home = λ _ no. absurd (no (tag_is ∙ same));
       }))
-      (λ (ne : home L o ≢ home L k). passes x (walked k d) at plain ws t notes is f w (FindsControl kw vw op L k d x) (λ e' below. others t f.cells e' says below) (bars_key k o (get_or f.cells (path L k d) free) e (λ z. ne (ap (home L) z)))
+      (λ (ne : home L o ≢ home L k). passes x (walked k d) at plain ws t notes is f w (FindsControl kw vw op L k d x) (others t f.cells says) (bars_key k o (get_or f.cells (path L k d) free) e (λ z. ne (ap (home L) z)))
       (λ did y still pass. record {
         still = still;
         free = λ z. absurd (some_there z);
@@ -236,7 +239,7 @@ module _ (kw vw : ℕ) (op : Words → Words → Words) (L : Shape) (law : Lawfu
         other = λ no. absurd (no (word_is ∙ agree));
       })))
       (λ (ne : slice_index o g ≢ slice_index k g).
-      passes x (comparing k d g) at plain ws t notes is f w (FindsKey kw vw op L k d g x) (λ e' below. others t f.cells e' says.1 below) (bars_key k o (get_or f.cells i free) there (λ z. ne (ap (λ (l : Words). slice_index l g) z)))
+      passes x (comparing k d g) at plain ws t notes is f w (FindsKey kw vw op L k d g x) (others t f.cells says.1) (bars_key k o (get_or f.cells i free) there (λ z. ne (ap (λ (l : Words). slice_index l g) z)))
       (λ did y still pass. record {
         still = still;
         more = λ e _. absurd (ne (sym word_is ∙ e));

@@ -1,5 +1,5 @@
 -- What a step leaves: the facts of the other places, and the claims of the other notes.
-use Rattle.std.proofs.Common.{◌≡◌, ◌≢◌, ℕ, ◌+◌, ◌<◌, ◌≤◌, ◌⊎◌, List, [], ◌∷◌, length, set, get_or, refl, sym, ap, ◌∙◌, subst, ⊎_elim, arith, length-set, get_or-set_other, get_or-set_same, Some, None}
+use Rattle.std.proofs.Common.{◌≡◌, ◌≢◌, ℕ, ◌+◌, ◌<◌, ◌≤◌, ◌⊎◌, inl, inr, List, [], ◌∷◌, length, set, get_or, refl, sym, ap, ◌∙◌, subst, ⊎_elim, arith, length-set, get_or-set_other, get_or-set_same, Some}
 use native.Mathlib.Decide.{ℕ_discrete}
 use mathlib.Core.Logic.{dite}
 use mathlib.Core.Option.{some, some-injective}
@@ -7,12 +7,12 @@ use lib.ListN.{get_elem?}
 use Rattle.atomic_table.proofs.Lists.{at_set, set_else}
 use Rattle.bcl_map.specs.declared.shape.Shape.{Shape}
 use Rattle.bcl_event.specs.Map.{Pairs, value_at}
-use Rattle.bcl_map.specs.Map.{places, Words, home, path, size, word}
-use Rattle.bcl_map.specs.Cells.{Cell, free, kept, busy, key_of, used, Bars, control}
+use Rattle.bcl_map.specs.Map.{places, Words, HasPlace, home, path, size, word}
+use Rattle.bcl_map.specs.Cells.{Cell, free, kept, busy, key_of, used, Bars, IsSettled, control}
 use Rattle.bcl_map.specs.declared.note.Lock.{Lock}
 use Rattle.bcl_map.specs.declared.note.Before.{Before}
 use Rattle.bcl_map.specs.declared.note.Before.TheVariants.{Nothing, Value as before}
-use Rattle.bcl_map.specs.Notes.{Claim, passed, keyed, alike, mine, certain, lacking, lent, grips, many, met, Note, Has, reads_all, readers, Says, AllSay}
+use Rattle.bcl_map.specs.Notes.{Claim, passed, keyed, alike, settled, certain, lacking, lent, grips, many, met, Note, Has, reads_all, readers, Says, AllSay}
 use Rattle.bcl_map.specs.Fits.{Behind, Named, IsContent, MayBeRead, PlaceOk, Placed, Fits}
 use Rattle.bcl_map.proofs.Counts.{filled_set, readers_set, set_here}
 
@@ -69,9 +69,9 @@ module _ (kw vw : ℕ) (L : Shape) where
   Stays q i t t' c c' (passed k d) = Bars k c → Bars k c'
   Stays q i t t' c c' (keyed k d) = key_of c ≡ some k → key_of c' ≡ some k
   Stays q i t t' c c' (alike k d g) = (o : Words) → home L o ≡ home L k → key_of c ≡ some o → key_of c' ≡ some o
-  Stays q i t t' c c' (mine k) = Unit {0}
+  Stays q i t t' c c' (settled k d) = IsSettled c → IsSettled c'
   Stays q i t t' c c' (certain k v) = value_at k t ≡ Some v → value_at k t' ≡ Some v
-  Stays q i t t' c c' (lacking k) = value_at k t ≡ None → value_at k t' ≡ None
+  Stays q i t t' c c' (lacking k) = (HasPlace k t → ⊥) → HasPlace k t' → ⊥
   Stays q i t t' c c' (lent j k v) = (j ≡ i → c ≡ kept k → c' ≡ kept k) × (value_at k t ≡ Some v → value_at k t' ≡ Some v)
   Stays q i t t' c c' (grips j l k old v n) = j ≡ i → c ≡ busy l q k old v n → c' ≡ busy l q k old v n
   Stays q i t t' c c' (many b) = b ≤ length t → b ≤ length t'
@@ -91,7 +91,7 @@ module _ (kw vw : ℕ) (L : Shape) where
     claim_stays p q t t' (passed k d) turn h = λ e l. carry (path L k e) (Bars k) (Bars k) (λ _. turn h) (λ _ z. z) (h e l)
     claim_stays p q t t' (keyed k d) turn h = carry (path L k d) (λ z. key_of z ≡ some k) (λ z. key_of z ≡ some k) (λ _. turn h) (λ _ z. z) h
     claim_stays p q t t' (alike k d g) turn h = (h.0, carry (path L k d) (λ z. key_of z ≡ some h.0) (λ z. key_of z ≡ some h.0) (λ _. turn h h.0 h.2) (λ _ z. z) h.1, h.2, h.3)
-    claim_stays p q t t' (mine k) turn h = h
+    claim_stays p q t t' (settled k d) turn h = carry (path L k d) IsSettled IsSettled (λ _. turn h) (λ _ z. z) h
     claim_stays p q t t' (certain k v) turn h = (h.0, turn h h.1)
     claim_stays p q t t' (lacking k) turn h = (h.0, turn h h.1)
     claim_stays p q t t' (lent j k v) turn h = (h.0, carry j (λ z. z ≡ kept k) (λ z. z ≡ kept k) ((turn h).0) (λ _ z. z) h.1, (turn h).1 h.2)
@@ -99,9 +99,9 @@ module _ (kw vw : ℕ) (L : Shape) where
     claim_stays p q t t' (many b) turn h = turn h h
     claim_stays p q t t' (met j b) turn h = let more = (turn h).1 in carry j (λ z. used z + b ≤ length t) (λ z. used z + b ≤ length t') ((turn h).0) (λ z le. omega arith) h
 
-    pub all_stay : (p q : ℕ) (t t' : Pairs) (as' : List Claim) → ((a : Claim) → Says L p t cells q a → Stays q i t t' (get_or cells i free) c a) → AllSay L p t cells q as' → AllSay L p t' (set cells i c) q as'
+    pub all_stay : (p q : ℕ) (t t' : Pairs) (as' : List Claim) → ((a : Claim) → Has a as' → Says L p t cells q a → Stays q i t t' (get_or cells i free) c a) → AllSay L p t cells q as' → AllSay L p t' (set cells i c) q as'
     all_stay p q t t' [] turn h = tt
-    all_stay p q t t' (a ∷ as') turn h = (claim_stays p q t t' a (turn a) h.0, all_stay p q t t' as' turn h.1)
+    all_stay p q t t' (a ∷ as') turn h = (claim_stays p q t t' a (turn a (inl refl)) h.0, all_stay p q t t' as' (λ b has. turn b (inr has)) h.1)
 
   -- a step that changes a note alone
   pub renotes : (p : ℕ) (ws : List ℕ) (t : Pairs) (notes : List Note) (f : Fits kw vw L p ws t notes) (r : ℕ) (x y : Note) → get_elem? notes r ≡ some x → ((j : ℕ) → SameAt j x y)
@@ -128,10 +128,10 @@ module _ (kw vw : ℕ) (L : Shape) where
       → ((j : ℕ) (k : Words) → j ≢ i → key_of (get_or f.cells j free) ≡ some k → value_at k t' ≡ value_at k t)
       → used c + length t ≡ used (get_or f.cells i free) + length t'
       → used (get_or f.cells i free) ≤ used c
-      → ((k v : Words) → value_at k t' ≡ Some v → key_of (get_or f.cells i free) ≡ some k → key_of c ≡ some k)
+      → ((k : Words) → HasPlace k t' → key_of (get_or f.cells i free) ≡ some k → key_of c ≡ some k)
       → ((j : ℕ) (k : Words) → key_of c ≡ some k → key_of (get_or f.cells j free) ≡ some k → i ≡ j)
-      → ((k v : Words) → value_at k t' ≡ Some v → Placed kw vw L (set f.cells i c) k ⊎ Placed kw vw L f.cells k)
-      → ((q : ℕ) (u : Note) (a : Claim) → q ≢ r → get_elem? notes q ≡ some u → Says L p t f.cells q a → Stays q i t t' (get_or f.cells i free) c a)
+      → ((k : Words) → HasPlace k t' → Placed kw vw L (set f.cells i c) k ⊎ Placed kw vw L f.cells k)
+      → ((q : ℕ) (u : Note) (a : Claim) → q ≢ r → get_elem? notes q ≡ some u → Has a u.claims → Says L p t f.cells q a → Stays q i t t' (get_or f.cells i free) c a)
       → AllSay L p t' (set f.cells i c) r y.claims
       → ((j : ℕ) → reads_all j y.claims ≤ 1)
       → Fits kw vw L p us t' (set notes r y)
@@ -152,13 +152,13 @@ module _ (kw vw : ℕ) (L : Shape) where
             (λ ne. let old : key_of (get_or cs a free) ≡ some k = ap key_of (sym (get_or-set_other cs i a c free ne)) ∙ ea in dite (ℕ_discrete b i)
             (λ e'. absurd (ne (sym (fresh a k (ap key_of (sym at_i) ∙ (ap (λ (z : ℕ). key_of (get_or (set cs i c) z free)) (sym e') ∙ eb)) old))))
             (λ ne'. f.once a b k old (ap key_of (sym (get_or-set_other cs i b c free ne')) ∙ eb)));
-        placed = λ k v e. ⊎_elim (λ h. h)
+        placed = λ k has. ⊎_elim (λ h. h)
             (λ (h : Placed kw vw L f.cells k). record {
               d = h.d;
               within = h.within;
-              there = carry cs i c near' (path L k h.d) (λ z. key_of z ≡ some k) (λ z. key_of z ≡ some k) (λ _. keys k v e) (λ _ z. z) h.there;
+              there = carry cs i c near' (path L k h.d) (λ z. key_of z ≡ some k) (λ z. key_of z ≡ some k) (λ _. keys k has) (λ _ z. z) h.there;
               before = λ a l. carry cs i c near' (path L k a) (λ z. used z ≡ 1) (λ z. used z ≡ 1) (λ _ g. let m = firm in let top = at_most' c in omega arith) (λ _ z. z) (h.before a l);
-            }) (placed k v e);
+            }) (placed k has);
         single = λ q u e. ⊎_elim (λ (z : (q ≡ r) × (y ≡ u)). subst (λ (w : Note). (j : ℕ) → reads_all j w.claims ≤ 1) z.1 once_only)
             (λ (z : (q ≢ r) × (get_elem? notes q ≡ some u)). f.single q u z.1) (at_set notes r q y u e);
         noted = λ q u e. ⊎_elim (λ (z : (q ≡ r) × (y ≡ u)). subst (λ (w : ℕ × Note). AllSay L p t' (set cs i c) w.0 w.1.claims) (λ j. (sym z.0 j, z.1 j)) says)

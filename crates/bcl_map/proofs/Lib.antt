@@ -1,8 +1,11 @@
+pub mod Keys
 pub mod Counts
 pub mod Frames
+pub mod Known
 pub mod Gets
 pub mod Finds
 pub mod Sees
+pub mod Writes
 pub mod Takes
 pub mod Puts
 pub mod Replaces

@@ -1,9 +1,9 @@
 -- The steps of a look at a bucket, as its code takes them.
-use Rattle.std.proofs.Common.{◌≡◌, ℕ, ◌+◌, ◌*◌, ◌^◌, ◌<◌, ◌≤◌, List, [], ◌∷◌, length, slice_index, slice_set, sym, ap, ◌∙◌, subst, ⊎_elim, arith, length-set, get_or-set_other, mod-lt}
+use Rattle.std.proofs.Common.{◌≡◌, ℕ, ◌+◌, ◌*◌, ◌^◌, ◌<◌, ◌≤◌, List, [], ◌∷◌, length, slice_index, slice_set, sym, ap, ◌∙◌, subst, ⊎_elim, arith, length-set, get_or-set_other}
 use Rattle.std.specs.Prelude.{Bool}
 use Rattle.std.proofs.lemmas.Bool.{cases_lt}
 use Rattle.std.proofs.lemmas.Grind.{same_number_lists}
-use Rattle.std.proofs.Math.Nat.{div-lt_iff_lt-mul, mul-pos, le-mul_of_pos_right, mul_comm}
+use Rattle.std.proofs.Math.Nat.{mul-pos, le-mul_of_pos_right, mul_comm}
 use Rattle.bcl_words.specs.Words.{IsWords}
 use Rattle.bcl_segment.specs.declared.layout.GlobalPtr.{GlobalPtr}
 use Rattle.bcl_segment.specs.declared.layout.Layout.{Layout}
@@ -23,7 +23,7 @@ use Rattle.bcl_phase.specs.Rule.{Moves}
 use Rattle.bcl_phase.specs.Flights.{Lies}
 use Rattle.bcl_phase.proofs.Flights.{lies_put}
 use Rattle.bcl_map.specs.declared.shape.Shape.{Shape}
-use Rattle.bcl_map.specs.Map.{Words, Lawful, ranks, first_pairs, begins_at, home, path, next, permits, size, IsShaped}
+use Rattle.bcl_map.specs.Map.{Words, Lawful, ranks, first_pairs, path, next, permits, size, IsShaped}
 use Rattle.bcl_map.specs.Notes.{Note}
 use Rattle.bcl_map.specs.Fits.{Holds}
 use Rattle.bcl_map.specs.Finds.{MaySee, Typed, walked, comparing, reading, value_of, Passes, FindsControl, FindsKey, FindsValue}
@@ -35,15 +35,9 @@ use Rattle.bcl_map.proofs.Finds.{past, finds_control, finds_key, finds_value, ty
 module _ (kw vw heads : ℕ) (layout : Layout) (L : Shape) (shaped : IsShaped kw vw heads layout L) where
   pub lawful : Lawful L
   lawful = record {
-    some_place = room;
-    low = λ k. let under : home L k < L.ranks = (div-lt_iff_lt-mul {k = L.per_rank} {x = begins_at L k} {y = L.ranks} per).1 (mod-lt _ room) in let few = shaped.few_ranks in omega arith;
+    some_place = mul-pos (let h = shaped.some_ranks in omega arith) (let h = shaped.some in omega arith);
+    few_ranks = shaped.few_ranks;
   }
-    where
-      per : 0 < L.per_rank
-      per = let h = shaped.some in omega arith
-
-      room : 0 < L.ranks * L.per_rank
-      room = mul-pos (let h = shaped.some_ranks in omega arith) per
 
   pub small : (at : GlobalPtr) (place : ℕ) → IsBucketAt (size kw vw) layout at place → at.offset + size kw vw ≤ 2 ^ 27
   small at place bucket = let room = bucket.room in let few = shaped.few in let some : layout.per_rank ≤ layout.ranks * layout.per_rank = subst (λ (n : ℕ). layout.per_rank ≤ n) (mul_comm layout.per_rank layout.ranks) (le-mul_of_pos_right layout.per_rank (let of_rank = bucket.of_rank in omega arith)) in omega arith

@@ -1,58 +1,43 @@
 -- A put of a word of the content, by the rank that writes the place.
-use Rattle.std.proofs.Common.{◌≡◌, ◌≢◌, ℕ, suc, ◌+◌, ◌*◌, ◌<◌, inl, inr, List, [], length, set, get_or, slice_index, slice_set, refl, sym, ap, ◌∙◌, subst, ⊎_elim, arith, length-set, get_or-set_other}
+use Rattle.std.proofs.Common.{◌≡◌, ◌≢◌, ℕ, suc, ◌+◌, ◌*◌, ◌<◌, inl, inr, List, [], length, set, get_or, slice_index, slice_set, refl, sym, ap, ◌∙◌, subst, ⊎_elim, arith, length-set}
 use Rattle.std.specs.Prelude.{Bool}
 use Rattle.std.proofs.lemmas.List.Elements.{All-nil}
 use Rattle.std.specs.List.{All}
 use native.Mathlib.Decide.{ℕ_discrete}
 use mathlib.Core.Logic.{dite}
-use mathlib.Core.Option.{some, some-ne-none, some-injective}
+use mathlib.Core.Option.{some}
 use Rattle.bcl_event.specs.History.{state_by}
 use Rattle.bcl_event.specs.declared.map.MapCall.{MapCall}
 use Rattle.bcl_event.specs.Map.{Pairs}
 use Rattle.bcl_phase.specs.Rule.{Moves}
 use Rattle.bcl_map.specs.declared.shape.Shape.{Shape}
 use Rattle.bcl_map.specs.declared.note.Lock.{Lock}
-use Rattle.bcl_map.specs.declared.note.Lock.TheVariants.{Shown as shown}
+use Rattle.bcl_map.specs.declared.note.Lock.TheVariants.{Shown as shown, Reserved as reserved}
 use Rattle.bcl_map.specs.declared.note.Before.{Before}
 use Rattle.bcl_map.specs.declared.note.Before.TheVariants.{Nothing, Value as before}
 use Rattle.bcl_map.specs.Map.{places, Words, Lawful, owning, home, path, next, permits, size, word, Lies, content}
-use Rattle.bcl_map.specs.Cells.{Cell, free, kept, busy, key_of, used}
-use Rattle.bcl_map.specs.Notes.{Claim, passed, keyed, alike, mine, certain, lacking, lent, grips, many, met, Note, Has, reads_all, readers, AllSay}
+use Rattle.bcl_map.specs.Cells.{Cell, free, kept, busy, key_of, used, IsSettled}
+use Rattle.bcl_map.specs.Notes.{Claim, passed, keyed, alike, settled, certain, lacking, lent, grips, many, met, Note, Has, reads_all, readers, AllSay}
 use Rattle.bcl_map.specs.Fits.{Behind, PlaceOk, fits, AreTyped, Holds}
 use Rattle.bcl_map.specs.Steps.{with_claims, Step}
 use Rattle.bcl_map.specs.Inserts.{writing, PutsWord}
-use Rattle.bcl_map.proofs.Counts.{set_here, readers_set}
+use Rattle.bcl_map.proofs.Counts.{set_here, bars_key, in_use, readers_set}
 use Rattle.bcl_map.proofs.Frames.{SameAt, Stays, here, changes}
 use Rattle.bcl_map.proofs.Gets.{near}
-use Rattle.bcl_map.proofs.Takes.{holds_step, that_word, same_words}
+use Rattle.bcl_map.proofs.Writes.{holds_step, that_word, same_word, same_words}
 
 -- the claims of other ranks stay, as a rank goes on or ends with a place that it writes
-pub held_stays : (kw vw : ℕ) (L : Shape) (i r q : ℕ) (t : Pairs) (l : Lock) (k : Words) (old : Before) (v : Words) (n : ℕ) (c : Cell) → q ≢ r → key_of c ≡ some k → (a : Claim) → Stays kw vw L q i t t (busy l r k old v n) c a
-held_stays kw vw L i r q t l k old v n free ne same a = absurd (some-ne-none k (sym same))
-held_stays kw vw L i r q t l k old v n (kept o) ne same (passed a d) = λ h z. h (sym (some-injective o k same) ∙ z)
-held_stays kw vw L i r q t l k old v n (kept o) ne same (keyed a d) = λ h. same ∙ h
-held_stays kw vw L i r q t l k old v n (kept o) ne same (alike a d g) = λ _ _ h. same ∙ h
-held_stays kw vw L i r q t l k old v n (kept o) ne same (mine a) = tt
-held_stays kw vw L i r q t l k old v n (kept o) ne same (certain a u) = λ h. h
-held_stays kw vw L i r q t l k old v n (kept o) ne same (lacking a) = λ h. h
-held_stays kw vw L i r q t l k old v n (kept o) ne same (lent j a u) = ((λ _ z. cc), λ h. h)
-held_stays kw vw L i r q t l k old v n (kept o) ne same (grips j m a w u g) = λ _ z. let e : r ≡ q = cc in absurd (ne (sym e))
-held_stays kw vw L i r q t l k old v n (kept o) ne same (many b) = λ h. h
-held_stays kw vw L i r q t l k old v n (kept o) ne same (met j b) = ((λ _ h. h), omega arith)
-held_stays kw vw L i r q t l k old v n (busy l' r' o w' u' n') ne same (passed a d) = λ h z. h (sym (some-injective o k same) ∙ z)
-held_stays kw vw L i r q t l k old v n (busy l' r' o w' u' n') ne same (keyed a d) = λ h. same ∙ h
-held_stays kw vw L i r q t l k old v n (busy l' r' o w' u' n') ne same (alike a d g) = λ _ _ h. same ∙ h
-held_stays kw vw L i r q t l k old v n (busy l' r' o w' u' n') ne same (mine a) = tt
-held_stays kw vw L i r q t l k old v n (busy l' r' o w' u' n') ne same (certain a u) = λ h. h
-held_stays kw vw L i r q t l k old v n (busy l' r' o w' u' n') ne same (lacking a) = λ h. h
-held_stays kw vw L i r q t l k old v n (busy l' r' o w' u' n') ne same (lent j a u) = ((λ _ z. cc), λ h. h)
-held_stays kw vw L i r q t l k old v n (busy l' r' o w' u' n') ne same (grips j m a w u g) = λ _ z. let e : r ≡ q = cc in absurd (ne (sym e))
-held_stays kw vw L i r q t l k old v n (busy l' r' o w' u' n') ne same (many b) = λ h. h
-held_stays kw vw L i r q t l k old v n (busy l' r' o w' u' n') ne same (met j b) = ((λ _ h. h), omega arith)
-
-module _ (kw vw : ℕ) (L : Shape) (law : Lawful L) where
-  pub same_word : (ws : List ℕ) (i a b w n : ℕ) → w ≡ size kw vw * i + b → a ≢ b → word kw vw (set ws w n) i a ≡ word kw vw ws i a
-  same_word ws i a b w n is ne = get_or-set_other ws w (size kw vw * i + a) n 0 (λ e. let base : ℕ = size kw vw * i in let e' : base + a ≡ base + b = e ∙ is in ne (omega arith))
+pub held_stays : (kw vw : ℕ) (L : Shape) (i r q : ℕ) (t : Pairs) (l : Lock) (k : Words) (old : Before) (v : Words) (n : ℕ) (c : Cell) → q ≢ r → key_of c ≡ some k → ((l ≢ reserved) → IsSettled c) → (a : Claim) → Stays kw vw L q i t t (busy l r k old v n) c a
+held_stays kw vw L i r q t l k old v n c ne same set (passed a d) = λ h. bars_key a k c same h
+held_stays kw vw L i r q t l k old v n c ne same set (keyed a d) = λ h. same ∙ h
+held_stays kw vw L i r q t l k old v n c ne same set (alike a d g) = λ _ _ h. same ∙ h
+held_stays kw vw L i r q t l k old v n c ne same set (settled a d) = set
+held_stays kw vw L i r q t l k old v n c ne same set (certain a u) = λ h. h
+held_stays kw vw L i r q t l k old v n c ne same set (lacking a) = λ h. h
+held_stays kw vw L i r q t l k old v n c ne same set (lent j a u) = ((λ _ z. absurd cc), λ h. h)
+held_stays kw vw L i r q t l k old v n c ne same set (grips j m a w u g) = λ _ z. let e : r ≡ q = cc in absurd (ne (sym e))
+held_stays kw vw L i r q t l k old v n c ne same set (many b) = λ h. h
+held_stays kw vw L i r q t l k old v n c ne same set (met j b) = ((λ _ h. let one = in_use c k same in omega arith), omega arith)
 
 module _ (kw vw : ℕ) (key value : List ℕ → Bool) (op : Words → Words → Words) (L : Shape) (law : Lawful L) (r : ℕ) (k v : Words) (d : ℕ) (old : Before) where
   puts_word : (n : ℕ) (x : Note) → n < kw + vw → x.claims ≡ writing L k d old v n
@@ -100,34 +85,34 @@ module _ (kw vw : ℕ) (key value : List ℕ → Bool) (op : Words → Words →
 
       lies : Lies kw vw us i (content kw vw k v) (suc n)
       lies b lb = dite (ℕ_discrete b n)
-          (λ (same : b ≡ n). ap (λ (z : ℕ). word kw vw us i (1 + z)) same ∙ (that_word kw vw L law owning ws t notes f i (1 + n) w m l (omega arith) refl ∙ ap (λ (z : ℕ). get_or (content kw vw k v) z 0) (sym same)))
-          (λ ne. same_word kw vw L law ws i (1 + b) (1 + n) w m refl (λ z. ne (omega arith)) ∙ ok.content.1 b (omega arith))
+          (λ (same : b ≡ n). ap (λ (z : ℕ). word kw vw us i (1 + z)) same ∙ (that_word kw vw L owning ws t notes f i (1 + n) w m l (omega arith) refl ∙ ap (λ (z : ℕ). get_or (content kw vw k v) z 0) (sym same)))
+          (λ ne. same_word kw vw L ws i (1 + b) (1 + n) w m refl (λ z. ne (omega arith)) ∙ ok.content.1 b (omega arith))
 
       behind : (o : Before) → Behind kw vw L ws i k o n → Behind kw vw L us i k o (suc n)
       behind Nothing h = tt
-      behind (before o) h = λ b le lt. same_word kw vw L law ws i (1 + b) (1 + n) w m refl (λ z. omega arith) ∙ h b (omega arith) lt
+      behind (before o) h = λ b le lt. same_word kw vw L ws i (1 + b) (1 + n) w m refl (λ z. omega arith) ∙ h b (omega arith) lt
 
-      puts : (c : Cell) (claims : List Claim) → key_of c ≡ some k → used c ≡ 1 → ((j : ℕ) → reads_all j claims ≡ 0) → PlaceOk kw vw L owning us t (set notes r (with_claims x claims)) i c
+      puts : (c : Cell) (claims : List Claim) → key_of c ≡ some k → used c ≡ 1 → IsSettled c → ((j : ℕ) → reads_all j claims ≡ 0) → PlaceOk kw vw L owning us t (set notes r (with_claims x claims)) i c
           → AllSay L owning t (set f.cells i c) r claims → tells (slice_index ws w) t [] (with_claims x claims) → Outcome
-      puts c claims same one none_read place says told = (
+      puts c claims same one settled_there none_read place says told = (
         [],
         with_claims x claims,
         All-nil (permits L owning r),
-        changes kw vw L owning ws us t t notes f r x (with_claims x claims) i c is (else_same claims none_read) l (length-set ws w m) (same_words kw vw L law ws i (1 + n) w m (omega arith) refl)
+        changes kw vw L owning ws us t t notes f r x (with_claims x claims) i c is (else_same claims none_read) l (length-set ws w m) (same_words kw vw L ws i (1 + n) w m (omega arith) refl)
             place (λ _ _ _ _. refl) (let was : used (get_or f.cells i free) ≡ 1 = ap used e in omega arith) (let was : used (get_or f.cells i free) ≡ 1 = ap used e in omega arith)
-            (λ q u _ g. same ∙ (sym (ap key_of e) ∙ g))
+            (λ q _ g. same ∙ (sym (ap key_of e) ∙ g))
             (λ j q g g'. f.once i j q (ap key_of e ∙ (sym same ∙ g)) g')
-            (λ q u g. inr (f.placed q u g))
-            (λ q u a ne at_q h. subst (λ (s : Cell). Stays kw vw L q i t t s c a) (sym e) (held_stays kw vw L i r q t shown k old v n c ne same a))
+            (λ q has. inr (f.placed q has))
+            (λ q u a ne at_q has h. subst (λ (s : Cell). Stays kw vw L q i t t s c a) (sym e) (held_stays kw vw L i r q t shown k old v n c ne same (λ _. settled_there) a))
             says (λ j. let z = none_read j in omega arith),
         told,
       )
 
       more : suc n ≢ kw + vw → Outcome
       more ne = let c : Cell = busy shown r k old v (suc n) in let claims : List Claim = writing L k d old v (suc n) in let room : length f.cells ≡ places L = f.room in
-          puts c claims refl refl (λ _. refl)
+          puts c claims refl refl (λ z. cc) (λ _. refl)
           (record {
-            shows = same_word kw vw L law ws i 0 (1 + n) w m refl (λ z. omega arith) ∙ ok.shows;
+            shows = same_word kw vw L ws i 0 (1 + n) w m refl (λ z. omega arith) ∙ ok.shows;
             read = still claims refl;
             content = (ok.content.0, lies, omega arith, behind old ok.content.3, ok.content.4, record { note = with_claims x claims; there = set_here notes r (with_claims x claims) x is; says = inl refl });
           })
@@ -136,9 +121,9 @@ module _ (kw vw : ℕ) (key value : List ℕ → Bool) (op : Words → Words →
 
       last : suc n ≡ kw + vw → Outcome
       last all = let c : Cell = kept k in
-          puts c [] refl refl (λ _. refl)
+          puts c [] refl refl tt (λ _. refl)
           (record {
-            shows = same_word kw vw L law ws i 0 (1 + n) w m refl (λ z. omega arith) ∙ (ok.shows ∙ no_more (readers i (set notes r (with_claims x []))) (still [] refl));
+            shows = same_word kw vw L ws i 0 (1 + n) w m refl (λ z. omega arith) ∙ (ok.shows ∙ no_more (readers i (set notes r (with_claims x []))) (still [] refl));
             read = tt;
             content = (v, ok.content.0, subst (Lies kw vw us i (content kw vw k v)) all lies);
           })

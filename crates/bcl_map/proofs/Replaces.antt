@@ -19,18 +19,18 @@ use Rattle.bcl_map.specs.declared.shape.Shape.{Shape}
 use Rattle.bcl_map.specs.declared.note.Lock.TheVariants.{Shown as shown}
 use Rattle.bcl_map.specs.declared.note.Before.TheVariants.{Value as before}
 use Rattle.bcl_map.specs.Map.{places, Words, Lawful, finding, owning, filling, home, path, next, permits, size, word, Lies, content}
-use Rattle.bcl_map.specs.Cells.{Cell, free, kept, busy, key_of, used}
-use Rattle.bcl_map.specs.Notes.{Claim, passed, keyed, alike, mine, certain, lacking, lent, grips, many, met, Note, Has, reads, reads_all, readers, Says, AllSay}
+use Rattle.bcl_map.specs.Cells.{Cell, free, kept, busy, key_of, used, IsSettled}
+use Rattle.bcl_map.specs.Notes.{Claim, passed, keyed, alike, settled, certain, lacking, lent, grips, many, met, Note, Has, reads, reads_all, readers, Says, AllSay}
 use Rattle.bcl_map.specs.Fits.{MayWrite, Named, IsContent, PlaceOk, Fits, fits, AreTyped, Holds}
 use Rattle.bcl_map.specs.Steps.{with_claims, Step}
 use Rattle.bcl_map.specs.Finds.{MaySee, reading}
 use Rattle.bcl_map.specs.Inserts.{writing, Replaces}
+use Rattle.bcl_map.proofs.Keys.{same_or_not, same_place}
 use Rattle.bcl_map.proofs.Counts.{set_here, bars_key, in_use}
 use Rattle.bcl_map.proofs.Frames.{SameAt, readers_stay, Stays, here, changes}
 use Rattle.bcl_map.proofs.Gets.{near}
 use Rattle.bcl_map.proofs.Finds.{ArePlain, none_grips, none_writes, key_word, value_word, own_words}
-use Rattle.bcl_map.proofs.Takes.{same_or_not, holds_step, typed_stored, that_word, same_words}
-use Rattle.bcl_map.proofs.Puts.{same_word}
+use Rattle.bcl_map.proofs.Writes.{holds_step, typed_stored, that_word, same_word, same_words}
 
 -- ---- under Own no place has readers
 
@@ -39,7 +39,7 @@ module _ (L : Shape) (t : Pairs) (cells : List Cell) (q i : ℕ) where
   unread (passed k d) h = refl
   unread (keyed k d) h = refl
   unread (alike k d g) h = refl
-  unread (mine k) h = refl
+  unread (settled k d) h = refl
   unread (certain k v) h = refl
   unread (lacking k) h = refl
   unread (lent j k v) h = let w : owning ≡ filling = h.0 in absurd (omega arith)
@@ -57,22 +57,22 @@ no_readers i (x ∷ xs) h = let one = h 0 x refl in let others = no_readers i xs
 
 -- ---- the claims of other ranks stay, as a place is turned to another value of its key, which this rank alone may change
 
-value_stays : (kw vw : ℕ) (L : Shape) (i r q : ℕ) (t t' : Pairs) (cells : List Cell) (k v : Words) (c : Cell) → key_of c ≡ some k → home L k ≡ r → q ≢ r → HasStored k v t t' 0
+value_stays : (kw vw : ℕ) (L : Shape) (i r q : ℕ) (t t' : Pairs) (cells : List Cell) (k v : Words) (c : Cell) → key_of c ≡ some k → IsSettled c → home L k ≡ r → q ≢ r → HasStored k v t t' 0
     → (a : Claim) → Says L owning t cells q a → Stays kw vw L q i t t' (kept k) c a
-value_stays kw vw L i r q t t' cells k v c same own ne st (passed o d) h = λ z. bars_key o k c same z
-value_stays kw vw L i r q t t' cells k v c same own ne st (keyed o d) h = λ z. same ∙ z
-value_stays kw vw L i r q t t' cells k v c same own ne st (alike o d g) h = λ _ _ z. same ∙ z
-value_stays kw vw L i r q t t' cells k v c same own ne st (mine o) h = tt
-value_stays kw vw L i r q t t' cells k v c same own ne st (certain o u) h = λ z. st.others o (λ alike'. ⊎_elim
+value_stays kw vw L i r q t t' cells k v c same set own ne st (passed o d) h = λ z. bars_key o k c same z
+value_stays kw vw L i r q t t' cells k v c same set own ne st (keyed o d) h = λ z. same ∙ z
+value_stays kw vw L i r q t t' cells k v c same set own ne st (alike o d g) h = λ _ _ z. same ∙ z
+value_stays kw vw L i r q t t' cells k v c same set own ne st (settled o d) h = λ _. set
+value_stays kw vw L i r q t t' cells k v c same set own ne st (certain o u) h = λ z. st.others o (λ alike'. ⊎_elim
     (λ (w : owning ≡ finding). absurd (omega arith))
     (λ (w : (owning ≡ owning) × (home L o ≡ q)). ne (sym w.1 ∙ (ap (home L) alike' ∙ own))) h.0) ∙ z
-value_stays kw vw L i r q t t' cells k v c same own ne st (lacking o) h = λ z. st.others o (λ alike'. ⊎_elim
+value_stays kw vw L i r q t t' cells k v c same set own ne st (lacking o) h = λ none has. none (same_place o t t' (st.others o (λ alike'. ⊎_elim
     (λ (w : owning ≡ finding). absurd (omega arith))
-    (λ (w : (owning ≡ owning) × (home L o ≡ q)). ne (sym w.1 ∙ (ap (home L) alike' ∙ own))) h.0) ∙ z
-value_stays kw vw L i r q t t' cells k v c same own ne st (lent j o u) h = let w : owning ≡ filling = h.0 in absurd (omega arith)
-value_stays kw vw L i r q t t' cells k v c same own ne st (grips j l o old u n) h = λ _ z. absurd cc
-value_stays kw vw L i r q t t' cells k v c same own ne st (many b) h = λ z. let m = st.keys in omega arith
-value_stays kw vw L i r q t t' cells k v c same own ne st (met j b) h = ((λ _ z. let m = st.keys in let one = in_use c k same in omega arith), (let m = st.keys in omega arith))
+    (λ (w : (owning ≡ owning) × (home L o ≡ q)). ne (sym w.1 ∙ (ap (home L) alike' ∙ own))) h.0)) has)
+value_stays kw vw L i r q t t' cells k v c same set own ne st (lent j o u) h = let w : owning ≡ filling = h.0 in absurd (omega arith)
+value_stays kw vw L i r q t t' cells k v c same set own ne st (grips j l o old u n) h = λ _ z. absurd cc
+value_stays kw vw L i r q t t' cells k v c same set own ne st (many b) h = λ z. let m = st.keys in omega arith
+value_stays kw vw L i r q t t' cells k v c same set own ne st (met j b) h = ((λ _ z. let m = st.keys in let one = in_use c k same in omega arith), (let m = st.keys in omega arith))
 
 -- ---- the step
 
@@ -169,43 +169,43 @@ module _ (kw vw : ℕ) (key value : List ℕ → Bool) (op : Words → Words →
 
       lies : Lies kw vw us i (content kw vw k v) (kw + 1)
       lies b lb = dite (ℕ_discrete b kw)
-          (λ (same : b ≡ kw). ap (λ (z : ℕ). word kw vw us i (1 + z)) same ∙ (that_word kw vw L law owning ws t notes f i (1 + kw) w m l (omega arith) refl ∙ (first_word ∙ ap (slice_index (content kw vw k v)) (sym same))))
-          (λ ne. let less : b < kw = omega arith in same_word kw vw L law ws i (1 + b) (1 + kw) w m refl (λ z. omega arith) ∙ (old_lies b (omega arith) ∙ same_key b less))
+          (λ (same : b ≡ kw). ap (λ (z : ℕ). word kw vw us i (1 + z)) same ∙ (that_word kw vw L owning ws t notes f i (1 + kw) w m l (omega arith) refl ∙ (first_word ∙ ap (slice_index (content kw vw k v)) (sym same))))
+          (λ ne. let less : b < kw = omega arith in same_word kw vw L ws i (1 + b) (1 + kw) w m refl (λ z. omega arith) ∙ (old_lies b (omega arith) ∙ same_key b less))
 
       behind : (b : ℕ) → kw + 1 ≤ b → b < kw + vw → word kw vw us i (1 + b) ≡ slice_index (content kw vw k old) b
-      behind b le lt = same_word kw vw L law ws i (1 + b) (1 + kw) w m refl (λ z. omega arith) ∙ old_lies b lt
+      behind b le lt = same_word kw vw L ws i (1 + b) (1 + kw) w m refl (λ z. omega arith) ∙ old_lies b lt
 
       shows : (z : ℕ) → z ≡ 0 → word kw vw us i 0 ≡ 2 + home L k * 256 + z * 65536
-      shows z is_zero = same_word kw vw L law ws i 0 (1 + kw) w m refl (λ z. omega arith) ∙ (ok.shows ∙ ap (λ (s : ℕ). 2 + home L k * 256 + s * 65536) (none_there ∙ sym is_zero))
+      shows z is_zero = same_word kw vw L ws i 0 (1 + kw) w m refl (λ z. omega arith) ∙ (ok.shows ∙ ap (λ (s : ℕ). 2 + home L k * 256 + s * 65536) (none_there ∙ sym is_zero))
 
       shows_alone : word kw vw us i 0 ≡ 2 + home L k * 256
       shows_alone = shows 0 refl ∙ omega arith
 
-      turns : (a : Cell) (claims : List Claim) → key_of a ≡ some k → used a ≡ 1 → ((j : ℕ) → reads_all j claims ≡ 0) → PlaceOk kw vw L owning us t' (set notes r (with_claims x claims)) i a
+      turns : (a : Cell) (claims : List Claim) → key_of a ≡ some k → used a ≡ 1 → IsSettled a → ((j : ℕ) → reads_all j claims ≡ 0) → PlaceOk kw vw L owning us t' (set notes r (with_claims x claims)) i a
           → AllSay L owning t' (set f.cells i a) r claims → Replaces kw vw op L c k v d old x t (c ∷ []) (with_claims x claims) → Outcome
-      turns a claims same one none_read place said told = (
+      turns a claims same one settled_there none_read place said told = (
         c ∷ [],
         with_claims x claims,
         All-cons (permits L owning r) c [] may (All-nil (permits L owning r)),
         subst (λ (s : Pairs). Fits kw vw L owning us s (set notes r (with_claims x claims))) after
-            (changes kw vw L owning ws us t t' notes f r x (with_claims x claims) i a is (λ j _. same_at claims none_read j) l (length-set ws w m) (same_words kw vw L law ws i (1 + kw) w m (omega arith) refl)
+            (changes kw vw L owning ws us t t' notes f r x (with_claims x claims) i a is (λ j _. same_at claims none_read j) l (length-set ws w m) (same_words kw vw L ws i (1 + kw) w m (omega arith) refl)
             place
             (λ j q ne g. st.others q (λ z. ne (f.once j i k (g ∙ ap some z) there)))
             (let had : used (get_or f.cells i free) ≡ 1 = ap used e in let keys = st.keys in omega arith)
             (let had : used (get_or f.cells i free) ≡ 1 = ap used e in omega arith)
-            (λ q u _ g. same ∙ (sym there ∙ g))
+            (λ q _ g. same ∙ (sym there ∙ g))
             (λ j q g g'. f.once i j q (there ∙ (sym same ∙ g)) g')
-            (λ q u g. inr (⊎_elim
-            (λ (z : q ≡ k). f.placed q old (ap (λ (o : Words). value_at o t) z ∙ was))
-            (λ ne. f.placed q u (sym (st.others q ne) ∙ g)) (same_or_not q k)))
-            (λ q u s ne at_q h. subst (λ (z : Cell). Stays kw vw L q i t t' z a s) (sym e) (value_stays kw vw L i r q t t' f.cells k v a same own ne st s h))
+            (λ q has. inr (⊎_elim
+            (λ (z : q ≡ k). f.placed q (old, ap (λ (o : Words). value_at o t) z ∙ was))
+            (λ ne. f.placed q (same_place q t t' (st.others q ne) has)) (same_or_not q k)))
+            (λ q u s ne at_q has h. subst (λ (z : Cell). Stays kw vw L q i t t' z a s) (sym e) (value_stays kw vw L i r q t t' f.cells k v a same settled_there own ne st s h))
             said (λ j. let z = none_read j in omega arith)),
         (told, λ typed. subst (AreTyped key value) after (typed_stored key value k v t t' 0 st typed_k typed_v typed)),
       )
 
       more : 1 ≢ vw → Outcome
       more ne = let claims : List Claim = writing L k d (before old) v (kw + 1) in let a : Cell = busy shown r k (before old) v (kw + 1) in let room : length f.cells ≡ places L = f.room in
-          turns a claims refl refl (λ _. refl)
+          turns a claims refl refl (λ z. cc) (λ _. refl)
           (record {
             shows = shows_alone;
             read = still claims (λ _. refl);
@@ -215,7 +215,7 @@ module _ (kw vw : ℕ) (key value : List ℕ → Bool) (op : Words → Words →
           (record { more = λ _. (refl, (λ j. (says j).0), refl); all = λ z. absurd (ne z) })
 
       last : 1 ≡ vw → Outcome
-      last all = turns (kept k) [] refl refl (λ _. refl)
+      last all = turns (kept k) [] refl refl tt (λ _. refl)
           (record {
             shows = shows (readers i (set notes r (with_claims x []))) (still [] (λ _. refl));
             read = tt;

@@ -1,10 +1,9 @@
 -- The gets of an insertion.
-use Rattle.std.proofs.Common.{◌≡◌, ◌≢◌, ℕ, zero, suc, ◌+◌, ◌-◌, ◌*◌, ◌%◌, ◌<◌, ◌≤◌, inr, List, [], ◌∷◌, length, get_or, slice_index, slice_set, refl, sym, ap, ap₂, ◌∙◌, subst, ⊎_elim, arith, Some, None, cond, eq-eqb, mod-lt}
+use Rattle.std.proofs.Common.{◌≡◌, ◌≢◌, ℕ, zero, suc, ◌+◌, ◌-◌, ◌*◌, ◌%◌, ◌<◌, ◌≤◌, inl, inr, List, [], ◌∷◌, length, get_or, slice_index, slice_set, refl, sym, ap, ap₂, ◌∙◌, subst, ⊎_elim, arith, Some, None, cond, eq-eqb, mod-lt}
 use Rattle.std.specs.Prelude.{Bool, true, false}
 use Rattle.std.specs.List.{All}
 use Rattle.std.proofs.lemmas.List.Elements.{All-nil, All-cons}
 use Rattle.std.proofs.lemmas.Bool.{cases_lt}
-use Rattle.std.proofs.lemmas.Option.{none-some}
 use Rattle.std.proofs.Math.Nat.{mod-eq_of_lt, add-mod, mod_self}
 use native.Mathlib.Decide.{ℕ_discrete}
 use mathlib.Core.Logic.{dite}
@@ -21,14 +20,16 @@ use Rattle.bcl_phase.specs.Rule.{Moves}
 use Rattle.bcl_map.specs.declared.shape.Shape.{Shape}
 use Rattle.bcl_map.specs.Map.{places, Words, Lawful, owning, begins_at, home, path, next, permits, size, tag}
 use Rattle.bcl_map.specs.Cells.{Cell, free, key_of, used, Bars, control}
-use Rattle.bcl_map.specs.Notes.{Claim, passed, Note, readers, Says, AllSay}
+use Rattle.bcl_map.specs.Notes.{Claim, passed, Note, Knows, readers, Says, AllSay}
 use Rattle.bcl_map.specs.Fits.{HasValue, PlaceOk, Fits, AreTyped, Holds}
 use Rattle.bcl_map.specs.Steps.{with_claims, Step, control_at}
 use Rattle.bcl_map.specs.Finds.{MaySee, walked, reading}
 use Rattle.bcl_map.specs.Inserts.{heading, matching, facing, least, Stores, GoesPast, Meets, SeesControl, SeesAgain, SeesKey}
+use Rattle.bcl_map.proofs.Keys.{no_value}
 use Rattle.bcl_map.proofs.Counts.{bars_key, bars_used, is_full}
+use Rattle.bcl_map.proofs.Known.{knows_passed}
 use Rattle.bcl_map.proofs.Gets.{near, shows_tag, absent_behind, absent_at_end, passed_more, gets}
-use Rattle.bcl_map.proofs.Finds.{ArePlain, plain_same, walked_plain, key_word, own_words, same_object, by_cell, on, whole}
+use Rattle.bcl_map.proofs.Finds.{ArePlain, plain_same, walked_plain, walked_knows, key_word, own_words, same_object, by_cell, on, whole}
 
 -- ---- each place is on a path
 
@@ -47,15 +48,17 @@ heading_plain : (strayed : Bool) (k : Words) (d b : ℕ) → ArePlain (heading s
 heading_plain false k d b = walked_plain k d
 heading_plain true k d b = (tt, (tt, (tt, tt)))
 
+heading_knows : (strayed : Bool) (k : Words) (d b : ℕ) → Knows k d (heading strayed k d b)
+heading_knows false k d b = walked_knows k d
+heading_knows true k d b = inr (d, omega arith, inl refl)
+
 walked_least : (k : Words) (d : ℕ) → least (walked k d) ≡ 0
 walked_least k zero = refl
 walked_least k (suc d) = refl
 
 module _ (L : Shape) (p : ℕ) (t : Pairs) (cells : List Cell) (r : ℕ) (k : Words) where
   heading_passed : (strayed : Bool) (d b : ℕ) → AllSay L p t cells r (heading strayed k d b) → Says L p t cells r (passed k d)
-  heading_passed false zero b says = λ e less. absurd (omega arith)
-  heading_passed false (suc d) b says = says.0
-  heading_passed true d b says = says.0
+  heading_passed strayed d b says = knows_passed L p t cells r k d (heading strayed k d b) says (heading_knows strayed k d b)
 
   -- at another place, with another number of keys
   heading_on : (strayed : Bool) (d b d' b' : ℕ) → AllSay L p t cells r (heading strayed k d b) → Says L p t cells r (passed k d') → b' ≤ length t → AllSay L p t cells r (heading strayed k d' b')
@@ -70,7 +73,7 @@ module _ (L : Shape) (p : ℕ) (t : Pairs) (cells : List Cell) (r : ℕ) (k : Wo
   -- a key that is there was not found to be lacking
   unstrayed : (strayed : Bool) (d b : ℕ) (u : Words) → AllSay L p t cells r (heading strayed k d b) → value_at k t ≡ Some u → strayed ≡ false
   unstrayed false d b u says e = refl
-  unstrayed true d b u says e = absurd (none-some u (sym says.1.1.0.1 ∙ e))
+  unstrayed true d b u says e = absurd (says.1.1.0.1 (u, e))
 
 -- ---- a map that is full
 
@@ -114,7 +117,7 @@ module _ (kw vw : ℕ) (op : Words → Words → Words) (L : Shape) (law : Lawfu
         (heading_on L owning t f.cells r k strayed d b (suc d) (length t) says more (omega arith))
         (told [] (with_claims x (heading strayed k (suc d) (length t))) refl (record { on = λ _. (refl, refl); ends = λ over. absurd (omega arith) })))
         (λ (most : places L ≤ suc d). let each : (e : ℕ) → e < places L → Bars k (get_or f.cells (path L k e) free) = λ e below. more e (omega arith) in
-        let full : next op L t c ≡ (Full, t) = full_call op L c k v t stores (absent_at_end L law kw vw owning ws t notes f k each) (all_used kw vw L law owning ws t notes f k each) in
+        let full : next op L t c ≡ (Full, t) = full_call op L c k v t stores (no_value k t (absent_at_end L law kw vw owning ws t notes f k each)) (all_used kw vw L law owning ws t notes f k each) in
         let stays : state_by (next op L) t (c ∷ []) ≡ t = ap (λ (z : MapReply Words × Pairs). z.1) full in
         gets L law kw vw op owning r x w tells ws t notes f (with_claims x []) (c ∷ []) is (plain_same x as' [] at plain tt) tt (λ j. refl) one_call stays
         (told (c ∷ []) (with_claims x []) stays (record { on = λ under. absurd (omega arith); ends = λ _. (refl, ap (λ (z : MapReply Words × Pairs). z.0) full, refl) })))

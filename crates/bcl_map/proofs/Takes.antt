@@ -1,17 +1,8 @@
 -- The exchange of a control word from FREE to READY, under Own.
-use Rattle.std.proofs.Common.{◌≡◌, ◌≢◌, ℕ, zero, suc, ◌+◌, ◌*◌, ◌<◌, ◌≤◌, ◌⊎◌, inl, inr, List, [], ◌∷◌, length, set, get_or, slice_index, slice_set, refl, sym, ap, ◌∙◌, subst, ⊎_elim, arith, Some, None, ne_eqb, eq-eqb, cond, length-set, get_or-set_other, get_or-set_same}
+use Rattle.std.proofs.Common.{◌≡◌, ◌≢◌, ℕ, suc, ◌+◌, ◌*◌, ◌<◌, ◌≤◌, ◌⊎◌, inl, inr, List, [], ◌∷◌, length, set, get_or, slice_index, slice_set, refl, sym, ap, ◌∙◌, subst, ⊎_elim, arith, None, ne_eqb, cond, length-set}
 use Rattle.std.specs.Prelude.{Bool, true, ◌==◌, if◌then◌else◌}
 use Rattle.std.proofs.lemmas.List.Elements.{All-nil, All-cons}
 use Rattle.std.specs.List.{All}
-use Rattle.std.specs.declared.cmp.Ordering.{Ordering}
-use Rattle.std.specs.declared.cmp.Ordering.TheVariants.{Less, Equal, Greater}
-use Rattle.std.specs.Ordering.{nat_cmp}
-use Rattle.std.specs.Cmp.{nat_cmp_total, tied_itself}
-use Rattle.std.specs.Cmp.Lexicographic.{slice_cmp, lists_total}
-use Rattle.std.proofs.lemmas.Map.Lookups.{exact_bytes}
-use Rattle.std.proofs.lemmas.Option.{none-some}
-use native.Mathlib.Decide.{ℕ_discrete}
-use mathlib.Core.Logic.{dite}
 use mathlib.Core.Option.{some, some-ne-none, some-injective}
 use Rattle.bcl_words.specs.Words.{IsWords}
 use Rattle.bcl_event.specs.History.{state_by}
@@ -27,84 +18,34 @@ use Rattle.bcl_map.specs.declared.note.Lock.{Lock}
 use Rattle.bcl_map.specs.declared.note.Lock.TheVariants.{Shown as shown, Reserved as reserved, Held as held}
 use Rattle.bcl_map.specs.declared.note.Before.{Before}
 use Rattle.bcl_map.specs.declared.note.Before.TheVariants.{Nothing}
-use Rattle.bcl_map.specs.Map.{places, Words, Lawful, finding, owning, filling, home, path, next, permits, size, word}
+use Rattle.bcl_map.specs.Map.{places, Words, Lawful, finding, owning, filling, HasPlace, home, path, next, permits, size}
 use Rattle.bcl_map.specs.Cells.{Cell, free, kept, busy, key_of, used, control}
-use Rattle.bcl_map.specs.Notes.{Claim, passed, keyed, alike, mine, certain, lacking, lent, grips, many, met, Note, Has, reads_all, readers, Says, AllSay}
-use Rattle.bcl_map.specs.Fits.{IsContent, MayBeRead, PlaceOk, Placed, Fits, fits, AreTyped, Holds}
+use Rattle.bcl_map.specs.Notes.{Claim, passed, keyed, alike, settled, certain, lacking, lent, grips, many, met, Note, Has, reads_all, readers, Says, AllSay}
+use Rattle.bcl_map.specs.Fits.{MayBeRead, PlaceOk, Placed, Fits, fits, AreTyped, Holds}
 use Rattle.bcl_map.specs.Steps.{with_claims, Step, control_at}
 use Rattle.bcl_map.specs.Inserts.{heading, facing, writing, least, Stores, ready, Takes}
-use Rattle.bcl_map.proofs.Counts.{set_here, has_room, apart, inside, bars_key, bars_used, in_use}
-use Rattle.bcl_map.proofs.Frames.{SameAt, SameWords, readers_stay, Stays, here, carry, changes}
+use Rattle.bcl_map.proofs.Keys.{same_or_not, no_value, same_place, has_place}
+use Rattle.bcl_map.proofs.Counts.{set_here, bars_key, bars_used, in_use}
+use Rattle.bcl_map.proofs.Frames.{SameAt, readers_stay, Stays, here, carry, changes}
 use Rattle.bcl_map.proofs.Gets.{near, passed_more, gets}
 use Rattle.bcl_map.proofs.Finds.{none_grips}
-
--- keys are alike or not
-pub same_or_not : (a b : Words) → (a ≡ b) ⊎ (a ≢ b)
-same_or_not a b = by (slice_cmp nat_cmp a b) refl
-  where
-    by : (o : Ordering) → slice_cmp nat_cmp a b ≡ o → (a ≡ b) ⊎ (a ≢ b)
-    by Equal e = inl (exact_bytes a b e)
-    by Less e = inr (λ z. let g : Less ≡ Equal = sym e ∙ (ap (λ (m : Words). slice_cmp nat_cmp m b) z ∙ tied_itself (lists_total nat_cmp_total) b) in cc)
-    by Greater e = inr (λ z. let g : Greater ≡ Equal = sym e ∙ (ap (λ (m : Words). slice_cmp nat_cmp m b) z ∙ tied_itself (lists_total nat_cmp_total) b) in cc)
-
--- the two ways of an exchange
-pub traded : (n old new : ℕ) (F : ℕ → Type 0) → (n ≡ old → F new) → (n ≢ old → F n) → F (if n == old then new else n)
-traded n old new F hit miss = dite (ℕ_discrete n old) (λ e. subst (λ b. F (cond b new n)) (sym (eq-eqb n old e)) (hit e)) (λ ne. subst (λ b. F (cond b new n)) (sym (ne_eqb n old ne)) (miss ne))
-
-at_end : (cs : List Cell) (j : ℕ) (k : Words) → key_of (get_or cs j free) ≡ some k → j < length cs
-at_end [] j k e = absurd (some-ne-none k (sym e))
-at_end (x ∷ xs) zero k e = omega arith
-at_end (x ∷ xs) (suc j) k e = let l = at_end xs j k e in omega arith
+use Rattle.bcl_map.proofs.Writes.{traded, holds_step, typed_stored, that_word, same_words, less_where_free}
 
 new_stored : (C : ℕ) (k v : Words) (f : Words → Words) (t : Pairs) → value_at k t ≡ None → length t ≢ C → stored C k v f t (value_at k t) ≡ (New, with_pair k v t)
 new_stored C k v f t e ne = ap (stored C k v f t) e ∙ ap (λ z. cond z (Full, t) (New, with_pair k v t)) (ne_eqb (length t) C ne)
 
--- ---- with the types of keys and values
-
--- a step that keeps the types of the pairs
-pub holds_step : (kw vw : ℕ) (key value : List ℕ → Bool) (op : Words → Words → Words) (L : Shape) (p r : ℕ) (x : Note) (i : ℕ) (f : ℕ → ℕ) (tells : ℕ → Pairs → List (MapCall Words Words) → Note → Type 0)
-    → Step kw vw op L p r x i f (λ n t did y. tells n t did y × (AreTyped key value t → AreTyped key value (state_by (next op L) t did))) → Moves (next op) permits (Holds kw vw key value) L p r x i f tells
-holds_step kw vw key value op L p r x i f tells step ws t xs is h small = let s = step ws t xs is h.places small in
-    (s.0, s.1, s.2, record { places = s.3; typed = s.4.1 h.typed }, s.4.0)
-
--- a typed pair is stored
-pub typed_stored : (key value : List ℕ → Bool) (k v : Words) (t t' : Pairs) (m : ℕ) → HasStored k v t t' m → key k ≡ true → value v ≡ true → AreTyped key value t → AreTyped key value t'
-typed_stored key value k v t t' m st typed_k typed_v typed a u e = ⊎_elim
-    (λ (z : a ≡ k). let same : Some v ≡ Some u = sym st.there ∙ (ap (λ (o : Words). value_at o t') (sym z) ∙ e) in let value_is : v ≡ u = cc in
-    (ap key z ∙ typed_k, ap value (sym value_is) ∙ typed_v))
-    (λ (ne : a ≢ k). typed a u (sym (st.others a ne) ∙ e)) (same_or_not a k)
-
 module _ (kw vw : ℕ) (L : Shape) (law : Lawful L) where
-  module _ (p : ℕ) (ws : List ℕ) (t : Pairs) (notes : List Note) (f : Fits kw vw L p ws t notes) where
-    pub has_value : (j : ℕ) (k : Words) → key_of (get_or f.cells j free) ≡ some k → (v : Words) × (value_at k t ≡ Some v)
-    has_value j k e = let l = at_end f.cells j k e in let room : length f.cells ≡ places L = f.room in go (get_or f.cells j free) ((f.each j (omega arith)).content) e
-      where
-        go : (c : Cell) → IsContent kw vw L p ws t notes j c → key_of c ≡ some k → (v : Words) × (value_at k t ≡ Some v)
-        go free ok e = absurd (some-ne-none k (sym e))
-        go (kept o) ok e = (ok.0, ap (λ (z : Words). value_at z t) (sym (some-injective o k e)) ∙ ok.1.2)
-        go (busy l q o old v n) ok e = (v, ap (λ (z : Words). value_at z t) (sym (some-injective o k e)) ∙ ok.0.2)
-
-    pub less_where_free : (i : ℕ) → i < places L → used (get_or f.cells i free) ≡ 0 → length t < places L
-    less_where_free i l hollow = let room : length f.cells ≡ places L = f.room in let a = has_room f.cells i (omega arith) hollow in let b = f.as_many in omega arith
-
-    pub that_word : (i b w n : ℕ) → i < places L → b < size kw vw → w ≡ size kw vw * i + b → word kw vw (set ws w n) i b ≡ n
-    that_word i b w n l lb is = subst (λ (z : ℕ). get_or (set ws w n) z 0 ≡ n) is (get_or-set_same ws w n 0 (subst (λ (z : ℕ). z < length ws) (sym is) (subst (λ (z : ℕ). size kw vw * i + b < z) (sym f.wide) (inside (size kw vw) i (places L) b l lb))))
-
-  -- one word of one place
-  pub same_words : (ws : List ℕ) (i b w n : ℕ) → b < size kw vw → w ≡ size kw vw * i + b → (j : ℕ) → j ≢ i → SameWords kw vw L ws (set ws w n) j
-  same_words ws i b w n lb is j ne a la = get_or-set_other ws w (size kw vw * j + a) n 0 (λ e. apart (size kw vw) j i a b ne la lb (e ∙ is))
-
   -- the claims of other ranks stay, as a free place gets a key that this rank alone may insert
-  new_stays : (i r q : ℕ) (t : Pairs) (cells : List Cell) (k v : Words) (c : Cell) → used c ≡ 1 → home L k ≡ r → q ≢ r → value_at k t ≡ None → HasStored k v t (with_pair k v t) 1
+  new_stays : (i r q : ℕ) (t : Pairs) (cells : List Cell) (k v : Words) (c : Cell) → used c ≡ 1 → home L k ≡ r → q ≢ r → (HasPlace k t → ⊥) → HasStored k v t (with_pair k v t) 1
       → (a : Claim) → Says L owning t cells q a → Stays kw vw L q i t (with_pair k v t) free c a
   new_stays i r q t cells k v c one mine' ne new st (passed o d) h = λ z. absurd z
   new_stays i r q t cells k v c one mine' ne new st (keyed o d) h = λ z. absurd (some-ne-none o (sym z))
   new_stays i r q t cells k v c one mine' ne new st (alike o d g) h = λ a _ z. absurd (some-ne-none a (sym z))
-  new_stays i r q t cells k v c one mine' ne new st (mine o) h = tt
-  new_stays i r q t cells k v c one mine' ne new st (certain o u) h = λ z. st.others o (λ same. none-some u (sym new ∙ (ap (λ (m : Words). value_at m t) (sym same) ∙ z))) ∙ z
-  new_stays i r q t cells k v c one mine' ne new st (lacking o) h = λ z. st.others o (λ same. ⊎_elim
+  new_stays i r q t cells k v c one mine' ne new st (settled o d) h = λ z. absurd z
+  new_stays i r q t cells k v c one mine' ne new st (certain o u) h = λ z. st.others o (λ same. new (u, ap (λ (m : Words). value_at m t) (sym same) ∙ z)) ∙ z
+  new_stays i r q t cells k v c one mine' ne new st (lacking o) h = λ none has. none (same_place o t (with_pair k v t) (st.others o (λ same. ⊎_elim
       (λ (w : owning ≡ finding). absurd (omega arith))
-      (λ (w : (owning ≡ owning) × (home L o ≡ q)). ne (sym w.1 ∙ (ap (home L) same ∙ mine'))) h.0) ∙ z
+      (λ (w : (owning ≡ owning) × (home L o ≡ q)). ne (sym w.1 ∙ (ap (home L) same ∙ mine'))) h.0)) has)
   new_stays i r q t cells k v c one mine' ne new st (lent j o u) h = let w : owning ≡ filling = h.0 in absurd (omega arith)
   new_stays i r q t cells k v c one mine' ne new st (grips j l o old u n) h = λ _ z. cc
   new_stays i r q t cells k v c one mine' ne new st (many b) h = λ z. let m = st.keys in omega arith
@@ -149,8 +90,11 @@ module _ (kw vw : ℕ) (key value : List ℕ → Bool) (op : Words → Words →
       most : used (get_or f.cells i free) + b ≤ length t
       most = knew.1.0
 
-      new : value_at k t ≡ None
+      new : HasPlace k t → ⊥
       new = knew.1.1.0.1
+
+      none : value_at k t ≡ None
+      none = no_value k t new
 
       no_grip : (j : ℕ) (lo : Lock) (a : Words) (old : Before) (u : Words) (g : ℕ) → Has (grips j lo a old u g) x.claims → ⊥
       no_grip j lo a old u g h = none_grips j lo a old u g (facing L k d b) (tt, (tt, (tt, tt))) (subst (Has (grips j lo a old u g)) at_claims h)
@@ -159,7 +103,7 @@ module _ (kw vw : ℕ) (key value : List ℕ → Bool) (op : Words → Words →
       same_at claims none_read j = (none_read j ∙ sym (ap (reads_all j) at_claims), λ lo a old u g h. absurd (no_grip j lo a old u g h))
 
       not_there : (j : ℕ) (q : Words) → key_of (get_or f.cells j free) ≡ some q → q ≢ k
-      not_there j q g z = let h = has_value kw vw L law owning ws t notes f j q g in none-some h.0 (sym new ∙ (ap (λ (a : Words). value_at a t) (sym z) ∙ h.1))
+      not_there j q g z = new (subst (λ (a : Words). HasPlace a t) z (has_place kw vw L owning ws t notes f j q g))
 
       -- another rank has the place: its key is another
       beaten : n ≢ 0 → (o : Words) → key_of (get_or f.cells i free) ≡ some o → Outcome n
@@ -180,11 +124,11 @@ module _ (kw vw : ℕ) (key value : List ℕ → Bool) (op : Words → Words →
       won hit (busy held q o old u a) e = let g : n ≡ 3 + home L o * 256 = ok.shows ∙ ap (control L (readers i notes)) e in absurd (omega arith)
       won hit free e =
           let hollow : used (get_or f.cells i free) ≡ 0 = ap used e in
-          let less = less_where_free kw vw L law owning ws t notes f i l hollow in
+          let less = less_where_free kw vw L owning ws t notes f i l hollow in
           let says : next op L t c ≡ (New, with_pair k v t) = ⊎_elim
-          (λ (z : c ≡ Insert k v). ap (next op L t) z ∙ new_stored (places L) k v (λ old. v) t new (λ same. omega arith))
-          (λ (z : c ≡ Merge k v). ap (next op L t) z ∙ new_stored (places L) k v (λ old. op old v) t new (λ same. omega arith)) stores in
-          let st : HasStored k v t (with_pair k v t) 1 = pair_stores k v t new in
+          (λ (z : c ≡ Insert k v). ap (next op L t) z ∙ new_stored (places L) k v (λ old. v) t none (λ same. omega arith))
+          (λ (z : c ≡ Merge k v). ap (next op L t) z ∙ new_stored (places L) k v (λ old. op old v) t none (λ same. omega arith)) stores in
+          let st : HasStored k v t (with_pair k v t) 1 = pair_stores k v t none in
           let a : Cell = busy shown r k Nothing v 0 in
           let claims : List Claim = writing L k d Nothing v 0 in
           let y : Note = with_claims x claims in
@@ -192,26 +136,26 @@ module _ (kw vw : ℕ) (key value : List ℕ → Bool) (op : Words → Words →
           let room : length f.cells ≡ places L = f.room in
           let unread : readers i (set notes r y) ≡ 0 = readers_stay notes r i x y is (same_at claims (λ _. refl) i) ∙ subst (MayBeRead kw vw L (readers i notes)) e ok.read in
           let fit : Fits kw vw L owning us (with_pair k v t) (set notes r y) = changes kw vw L owning ws us t (with_pair k v t) notes f r x y i a is
-          (λ j _. same_at claims (λ _. refl) j) l (length-set ws w m) (same_words kw vw L law ws i 0 w m (omega arith) refl)
+          (λ j _. same_at claims (λ _. refl) j) l (length-set ws w m) (same_words kw vw L ws i 0 w m (omega arith) refl)
           (record {
-            shows = that_word kw vw L law owning ws t notes f i 0 w m l (omega arith) refl;
+            shows = that_word kw vw L owning ws t notes f i 0 w m l (omega arith) refl;
             read = unread;
             content = ((long_k, long_v, st.there), (λ g lt. absurd (omega arith)), omega arith, tt, (refl, own), record { note = y; there = set_here notes r y x is; says = inl refl });
           })
           (λ j q ne g. st.others q (not_there j q g))
           (let more = st.keys in omega arith)
           (omega arith)
-          (λ q u _ g. absurd (some-ne-none q (sym g ∙ ap key_of e)))
+          (λ q _ g. absurd (some-ne-none q (sym g ∙ ap key_of e)))
           (λ j q g g'. absurd (not_there j q g' (sym (some-injective k q g))))
-          (λ q u g. ⊎_elim
+          (λ q has. ⊎_elim
           (λ (z : q ≡ k). inl (subst (Placed kw vw L (set f.cells i a)) (sym z) (record {
             d = d;
             within = short;
             there = ap key_of (here kw vw L f.cells i a (omega arith));
             before = λ s lt. carry kw vw L f.cells i a (omega arith) (path L k s) (λ z. used z ≡ 1) (λ z. used z ≡ 1) (λ _ _. refl) (λ _ z. z) (bars_used k (get_or f.cells (path L k s) free) (knew.0 s lt));
           })))
-          (λ ne. inr (f.placed q u (sym (st.others q ne) ∙ g))) (same_or_not q k))
-          (λ q u s ne at_q h. subst (λ (z : Cell). Stays kw vw L q i t (with_pair k v t) z a s) (sym e) (new_stays kw vw L law i r q t f.cells k v a refl own ne new st s h))
+          (λ ne. inr (f.placed q (same_place q t (with_pair k v t) (st.others q ne) has))) (same_or_not q k))
+          (λ q u s ne at_q has h. subst (λ (z : Cell). Stays kw vw L q i t (with_pair k v t) z a s) (sym e) (new_stays kw vw L law i r q t f.cells k v a refl own ne new st s h))
           (here kw vw L f.cells i a (omega arith), tt) (λ _. omega arith) in
           let after : with_pair k v t ≡ state_by (next op L) t (c ∷ []) = λ j. (sym says j).1 in (
             c ∷ [],

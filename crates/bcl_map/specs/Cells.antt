@@ -30,6 +30,12 @@ Bars k free = ⊥
 Bars k (kept o) = o ≢ k
 Bars k (busy l q o old v n) = o ≢ k
 
+-- the place is in use and not reserved: where ranks insert any key, its key is whole
+abbrev pub IsSettled : Cell → Type 0
+IsSettled free = ⊥
+IsSettled (kept k) = Unit {0}
+IsSettled (busy l q k old v n) = l ≢ reserved
+
 abbrev pub filled : List Cell → ℕ
 filled [] = 0
 filled (c ∷ cs) = used c + filled cs

@@ -9,7 +9,7 @@ use Rattle.bcl_event.specs.declared.map.MapReply.TheVariants.{Value, Absent}
 use Rattle.bcl_event.specs.Map.{Pairs, value_at}
 use Rattle.bcl_map.specs.declared.shape.Shape.{Shape}
 use Rattle.bcl_map.specs.Map.{places, Words, finding, owning, home, next, tag}
-use Rattle.bcl_map.specs.Notes.{Claim, passed, keyed, alike, mine, certain, lacking, lent, grips, many, met, Note}
+use Rattle.bcl_map.specs.Notes.{Claim, passed, keyed, alike, settled, certain, lacking, lent, grips, many, met, Note}
 use Rattle.bcl_map.specs.Fits.{AreTyped}
 use Rattle.bcl_map.specs.Steps.{Goes_on, Answers}
 
@@ -36,7 +36,7 @@ value_of [] = []
 value_of (passed k d ∷ as') = value_of as'
 value_of (keyed k d ∷ as') = value_of as'
 value_of (alike k d g ∷ as') = value_of as'
-value_of (mine k ∷ as') = value_of as'
+value_of (settled k d ∷ as') = value_of as'
 value_of (certain k v ∷ as') = v
 value_of (lacking k ∷ as') = value_of as'
 value_of (lent i k v ∷ as') = value_of as'

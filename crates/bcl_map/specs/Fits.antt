@@ -5,7 +5,7 @@ use lib.ListN.{get_elem?}
 use Rattle.bcl_words.specs.Words.{IsWords}
 use Rattle.bcl_map.specs.declared.shape.Shape.{Shape}
 use Rattle.bcl_event.specs.Map.{Pairs, value_at}
-use Rattle.bcl_map.specs.Map.{places, Words, owning, filling, home, path, size, word, Lies, content}
+use Rattle.bcl_map.specs.Map.{places, Words, owning, filling, HasPlace, home, path, size, word, Lies, content}
 use Rattle.bcl_map.specs.Cells.{Cell, free, kept, busy, key_of, used, filled, at, control}
 use Rattle.bcl_map.specs.declared.note.Lock.{Lock}
 use Rattle.bcl_map.specs.declared.note.Lock.TheVariants.{Shown as shown, Reserved as reserved, Held as held}
@@ -51,7 +51,7 @@ module _ (kw vw : ℕ) (L : Shape) where
     pub read : MayBeRead (readers i notes) c
     pub content : IsContent p ws t notes i c
 
-  -- the places before a key's place are in use
+  -- the key has its place on its path, behind places that are in use
   pub record Placed (cells : List Cell) (k : Words) : Type 0 where
     pub d : ℕ
     pub within : d < places L
@@ -66,7 +66,7 @@ module _ (kw vw : ℕ) (L : Shape) where
     pub as_many : filled cells ≡ length t
     pub each : (i : ℕ) → i < places L → PlaceOk p ws t notes i (at cells i)
     pub once : (i j : ℕ) (k : Words) → key_of (at cells i) ≡ some k → key_of (at cells j) ≡ some k → i ≡ j
-    pub placed : (k v : Words) → value_at k t ≡ Some v → Placed cells k
+    pub placed : (k : Words) → HasPlace k t → Placed cells k
     pub single : (r : ℕ) (x : Note) → get_elem? notes r ≡ some x → (i : ℕ) → reads_all i x.claims ≤ 1
     pub noted : (r : ℕ) (x : Note) → get_elem? notes r ≡ some x → AllSay L p t cells r x.claims
 

@@ -11,7 +11,7 @@ use Rattle.bcl_map.specs.declared.note.Lock.TheVariants.{Shown as shown}
 use Rattle.bcl_map.specs.declared.note.Before.{Before}
 use Rattle.bcl_map.specs.declared.note.Before.TheVariants.{Nothing, Value as before}
 use Rattle.bcl_map.specs.Map.{places, Words, home, path, next, tag}
-use Rattle.bcl_map.specs.Notes.{Claim, passed, keyed, alike, mine, certain, lacking, lent, grips, many, met, Note}
+use Rattle.bcl_map.specs.Notes.{Claim, passed, keyed, alike, settled, certain, lacking, lent, grips, many, met, Note}
 use Rattle.bcl_map.specs.Steps.{Goes_on, Answers}
 use Rattle.bcl_map.specs.Finds.{walked, reading}
 
@@ -40,7 +40,7 @@ strays [] = false
 strays (passed k d ∷ as') = strays as'
 strays (keyed k d ∷ as') = strays as'
 strays (alike k d g ∷ as') = strays as'
-strays (mine k ∷ as') = strays as'
+strays (settled k d ∷ as') = strays as'
 strays (certain k v ∷ as') = strays as'
 strays (lacking k ∷ as') = true
 strays (lent i k v ∷ as') = strays as'
@@ -54,7 +54,7 @@ least [] = 0
 least (passed k d ∷ as') = least as'
 least (keyed k d ∷ as') = least as'
 least (alike k d g ∷ as') = least as'
-least (mine k ∷ as') = least as'
+least (settled k d ∷ as') = least as'
 least (certain k v ∷ as') = least as'
 least (lacking k ∷ as') = least as'
 least (lent i k v ∷ as') = least as'
@@ -68,7 +68,7 @@ old_of [] = Nothing
 old_of (passed k d ∷ as') = old_of as'
 old_of (keyed k d ∷ as') = old_of as'
 old_of (alike k d g ∷ as') = old_of as'
-old_of (mine k ∷ as') = old_of as'
+old_of (settled k d ∷ as') = old_of as'
 old_of (certain k v ∷ as') = old_of as'
 old_of (lacking k ∷ as') = old_of as'
 old_of (lent i k v ∷ as') = old_of as'

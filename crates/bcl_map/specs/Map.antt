@@ -1,13 +1,13 @@
 -- The map under phases: its sequential object, what its promises permit, and where its words stand.
 -- A place has 1 + kw + vw words: its control word, and then its content, which is the words of a key and of its value.
-use Rattle.std.specs.Prelude.{◌≡◌, ℕ, ◌+◌, ◌*◌, ◌/◌, ◌%◌, ◌<◌, ◌≤◌, ◌^◌, List, [], ◌++◌, slice_index, take}
+use Rattle.std.specs.Prelude.{◌≡◌, ℕ, ◌+◌, ◌*◌, ◌/◌, ◌%◌, ◌<◌, ◌≤◌, ◌^◌, List, [], ◌++◌, slice_index, take, Some}
 use Rattle.bcl_segment.specs.declared.layout.Layout.{Layout}
 use Rattle.bcl_segment.specs.Places as segment
 use Rattle.bcl_bucket.specs.Paths.{start_of}
 use Rattle.bcl_map.specs.declared.shape.Shape.{Shape}
 use Rattle.bcl_event.specs.declared.map.MapCall.{MapCall}
 use Rattle.bcl_event.specs.declared.map.MapReply.{MapReply}
-use Rattle.bcl_event.specs.Map.{Pairs, map_step}
+use Rattle.bcl_event.specs.Map.{Pairs, value_at, map_step}
 use Rattle.bcl_event.specs.Promises.{Permits, map_permits}
 
 -- keys and values are their words
@@ -53,6 +53,10 @@ next op L t c = map_step (places L) op t c
 abbrev pub permits : Shape → ℕ → ℕ → MapCall Words Words → Type 0
 permits L p r c = Permits (map_permits (home L)) p r c
 
+-- the state has a place for the key: one with a value, as each place has
+abbrev pub HasPlace : Words → Pairs → Type 0
+HasPlace k t = (v : Words) × (value_at k t ≡ Some v)
+
 -- the home that a control word names
 abbrev pub tag : ℕ → ℕ
 tag n = n / 256 % 256
@@ -60,7 +64,7 @@ tag n = n / 256 % 256
 -- what is known of a layout
 pub record Lawful (L : Shape) : Type 0 where
   pub some_place : 0 < places L
-  pub low : (k : Words) → home L k < 256
+  pub few_ranks : L.ranks ≤ 64
 
 -- of the eight words of a key and of a value those of their own stand in a place
 abbrev pub content : ℕ → ℕ → Words → Words → List ℕ

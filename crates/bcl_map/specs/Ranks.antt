@@ -13,7 +13,7 @@ use Rattle.bcl_map.specs.Map.{ranks}
 use Rattle.bcl_map.specs.Cells.{Cell, free, kept, busy, control}
 use Rattle.bcl_map.specs.declared.note.Lock.{Lock}
 use Rattle.bcl_map.specs.declared.note.Before.{Before}
-use Rattle.bcl_map.specs.Notes.{Claim, passed, keyed, alike, mine, certain, lacking, lent, grips, many, met, Note, Has, is_known, Rests, rest, reads, reads_all, readers, AllSay}
+use Rattle.bcl_map.specs.Notes.{Claim, passed, keyed, alike, settled, certain, lacking, lent, grips, many, met, Note, Has, is_known, Rests, rest, reads, reads_all, readers, AllSay}
 use Rattle.bcl_map.specs.Fits.{IsContent, MayBeRead, PlaceOk, fits, Holds}
 
 -- a known claim reads no place, and writes none
@@ -21,7 +21,7 @@ known_reads : (i : ℕ) (a : Claim) → is_known a ≡ true → reads i a ≡ 0
 known_reads i (passed k d) h = refl
 known_reads i (keyed k d) h = refl
 known_reads i (alike k d g) h = absurd (false≢true h)
-known_reads i (mine k) h = absurd (false≢true h)
+known_reads i (settled k d) h = refl
 known_reads i (certain k v) h = absurd (false≢true h)
 known_reads i (lacking k) h = absurd (false≢true h)
 known_reads i (lent j k v) h = absurd (false≢true h)

@@ -30,11 +30,11 @@ pub enum Claim {
     Keyed(Words, u64),
     /// That place is in use by a key of the same home, whose first words are those of this key.
     Alike(Words, u64, u64),
-    /// The key's home is the rank, where that matters.
-    Mine(Words),
+    /// That place is in use and not reserved: its key is whole where ranks insert any key.
+    Settled(Words, u64),
     /// The value of a key, which no other rank changes.
     Certain(Words, Words),
-    /// A key has no value, and no other rank gives it one.
+    /// A key has no place, and no other rank gives it one.
     Lacking(Words),
     /// The place has a reader of this rank, and its key and value stay.
     Lent(u64, Words, Words),

@@ -6,12 +6,13 @@ use Rattle.bcl_phase.specs.Parts.{lead_key, lead_heads, lead_layout, lead_word, 
 use Rattle.bcl_map.specs.Map.{path, next, permits}
 use Rattle.bcl_map.specs.Fits.{Holds}
 use Rattle.bcl_map.specs.Inserts.{Takes}
+use Rattle.bcl_map.proofs.Gets.{low_home}
 use Rattle.bcl_map.proofs.Looks.{lawful, word_is}
 use Rattle.bcl_map.proofs.Takes.{take_step}
 use Rattle.bcl_map.proofs.insert.take.Goals as goal
 
 pub ready-requires : goal.ready-requires
-ready-requires g c = record { few = let lead = c.args.lead.now in let low = (lawful g.K.Object.WORDS g.V.Object.WORDS (lead_heads lead) (lead_layout lead) (lead_key lead) c.requires.shape).low c.args.key.now in let is = c.requires.home in omega arith }
+ready-requires g c = record { few = let lead = c.args.lead.now in let low = low_home (lead_key lead) (lawful g.K.Object.WORDS g.V.Object.WORDS (lead_heads lead) (lead_layout lead) (lead_key lead) c.requires.shape) c.args.key.now in let is = c.requires.home in omega arith }
 
 pub cas-requires-clause-step : goal.cas-requires-clause-step
 cas-requires-clause-step g c = let lead = c.args.lead.now in let L = lead_key lead in let v = pass_view c.args.pass.now in let k = c.args.key.now in let d = c.args.number in let value = c.args.value.now in
