@@ -1,4 +1,4 @@
--- What a home reads of its places, while no pass is out: the pairs of the state, each in one place.
+-- What is read of the places while no pass is out: the pairs of the state, each in one place.
 use Rattle.std.proofs.Common.{◌≡◌, ◌≢◌, ℕ, zero, suc, ◌+◌, ◌*◌, ◌<◌, length-append, ◌≤◌, ◌⊎◌, inl, inr, List, [], ◌∷◌, ◌++◌, length, take, get_or, slice_index, mod-lt, refl, sym, ap, ◌∙◌, subst, ⊎_elim, arith, Bool, true, false, cond, Option, Some, None}
 use Rattle.std.specs.Prelude.{◌==◌, if◌then◌else◌}
 use Rattle.std.specs.Ordering.{nat_cmp, is_eq}
@@ -20,7 +20,7 @@ use Rattle.bcl_map.specs.declared.shape.Shape.{Shape}
 use Rattle.bcl_event.specs.History.{state_after}
 use Rattle.bcl_event.specs.Map.{Pairs, value_at}
 use Rattle.bcl_phase.specs.Views.{words_of}
-use Rattle.bcl_map.specs.Map.{places, Words, first_pairs, next, home, path, size, word, Lies, content}
+use Rattle.bcl_map.specs.Map.{places, Words, first_pairs, next, path, size, word, Lies, content}
 use Rattle.bcl_map.specs.Cells.{Cell, free, kept, busy, key_of}
 use Rattle.bcl_map.specs.Fits.{HasValue, PlaceOk, Fits, AreTyped, Holds}
 use Rattle.bcl_map.specs.Calls.{MapView, IsBucketAt}
@@ -98,7 +98,7 @@ module _ (kw vw : ℕ) (L : Shape) (p : ℕ) (ws : List ℕ) (t : Pairs) (f : Fi
     pub v : Words
     pub keyed : key_of (get_or f.cells i free) ≡ some k
     pub valued : HasValue kw vw L t k v
-    pub ready : word kw vw ws i 0 ≡ 2 + home L k * 256
+    pub in_use : word kw vw ws i 0 ≢ 0
     pub lies : Lies kw vw ws i (content kw vw k v) (kw + vw)
 
   pub place_is : (i : ℕ) → i < places L → (word kw vw ws i 0 ≡ 0) ⊎ Whole i
@@ -106,11 +106,8 @@ module _ (kw vw : ℕ) (L : Shape) (p : ℕ) (ws : List ℕ) (t : Pairs) (f : Fi
     where
       by : (c : Cell) → get_or f.cells i free ≡ c → PlaceOk kw vw L p ws t [] i c → (word kw vw ws i 0 ≡ 0) ⊎ Whole i
       by free e ok = inl ok.shows
-      by (kept k) e ok = inr (record { k = k; v = ok.content.0; keyed = ap key_of e; valued = ok.content.1; ready = ok.shows ∙ omega arith; lies = ok.content.2 })
+      by (kept k) e ok = inr (record { k = k; v = ok.content.0; keyed = ap key_of e; valued = ok.content.1; in_use = λ z. let shown = ok.shows in omega arith; lies = ok.content.2 })
       by (busy m q k old v n) e ok = absurd (some-ne-none ok.content.5.note (sym ok.content.5.there))
-
-  in_use : (i : ℕ) → Whole i → word kw vw ws i 0 ≢ 0
-  in_use i h e = let r = h.ready in omega arith
 
   pub room : (i : ℕ) → i < places L → size kw vw * i + size kw vw ≤ length ws
   room i low = let in' = inside (size kw vw) i (places L) (kw + vw) low (omega arith) in let all = f.wide in omega arith
@@ -133,7 +130,7 @@ module _ (kw vw : ℕ) (L : Shape) (p : ℕ) (ws : List ℕ) (t : Pairs) (f : Fi
     pair_is = λ j. (key_is j, value_is j)
 
   grown : (i : ℕ) → i < places L → (w : Whole i) → pairs_to kw vw ws (suc i) ≡ pairs_to kw vw ws i ++ (w.k, w.v) ∷ []
-  grown i low w = taken kw vw ws i (in_use i w) ∙ ap (λ (e : Words × Words). pairs_to kw vw ws i ++ e ∷ []) (pair_is i low w)
+  grown i low w = taken kw vw ws i w.in_use ∙ ap (λ (e : Words × Words). pairs_to kw vw ws i ++ e ∷ []) (pair_is i low w)
 
   -- a value that is found is that of the state
   sound : (q u : Words) (n : ℕ) → n ≤ places L → value_at q (pairs_to kw vw ws n) ≡ Some u → value_at q t ≡ Some u
@@ -170,7 +167,7 @@ module _ (kw vw : ℕ) (L : Shape) (p : ℕ) (ws : List ℕ) (t : Pairs) (f : Fi
     where
       by : (c : Cell) → get_or f.cells i free ≡ c → PlaceOk kw vw L p ws t [] i c → key_of c ≡ some k → (w : Whole i) × (w.k ≡ k)
       by free e ok of = absurd (some-ne-none k (sym of))
-      by (kept o) e ok of = (record { k = o; v = ok.content.0; keyed = ap key_of e; valued = ok.content.1; ready = ok.shows ∙ omega arith; lies = ok.content.2 }, some-injective o k of)
+      by (kept o) e ok of = (record { k = o; v = ok.content.0; keyed = ap key_of e; valued = ok.content.1; in_use = λ z. let shown = ok.shows in omega arith; lies = ok.content.2 }, some-injective o k of)
       by (busy m q o old v n) e ok of = absurd (some-ne-none ok.content.5.note (sym ok.content.5.there))
 
   -- of each key the value is that of the state

@@ -1,5 +1,5 @@
 -- What is known by the claims of a note.
-use Rattle.std.proofs.Common.{◌≡◌, ℕ, ◌<◌, ◌≤◌, List, [], ◌∷◌, subst, ⊎_elim, arith}
+use Rattle.std.proofs.Common.{◌≡◌, ℕ, ◌≤◌, List, [], ◌∷◌, subst, ⊎_elim, arith}
 use Rattle.bcl_map.specs.declared.shape.Shape.{Shape}
 use Rattle.bcl_event.specs.Map.{Pairs}
 use Rattle.bcl_map.specs.Map.{Words}

@@ -49,7 +49,7 @@ module _ (kw vw heads : ℕ) (layout : Layout) (L : Shape) (shaped : IsShaped kw
     pub spot_is : j < size kw vw → IsSpot heads layout spot
     spot_is low = let room = bucket.room in subst (IsSpot heads layout) (sym is) (bucket.of_rank, omega arith)
 
-    -- what a home finds there that knows its words
+    -- what is found there by whoever knows the words
     pub found_is : (v v' : MapView) (heads' : ℕ) (layout' : Layout) (n : ℕ) → v' ≡ v → heads' ≡ heads → layout' ≡ layout → n ≡ slice_index (words_of v') (word_at heads' layout' spot) → n ≡ slice_index (words_of v) (size kw vw * place + j)
     found_is v v' heads' layout' n same same_heads same_layout found = found ∙ ((λ i. slice_index (words_of (same i)) (word_at (same_heads i) (same_layout i) spot)) ∙ ap (slice_index (words_of v)) word_is)
 

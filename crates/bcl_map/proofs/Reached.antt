@@ -266,7 +266,7 @@ module _ (op : Words → Words → Words) (L : Shape) where
 
   -- ---- what it costs
 
-  -- of the exchanges at most as many are lost as other ranks took buckets meanwhile
+  -- of the exchanges at most as many are lost as other ranks inserted keys since the pass had last seen the history
   pub covered : (c : MapCall Words Words) (a : MapReply Words) (u w : MapView) → Ends op L c a u w → w.atomics ≤ u.atomics + (taken u w + is_new a)
   covered c a u w ends = ⊎_elim (λ (same : w.atomics ≡ u.atomics). none_lost w.atomics u.atomics (taken u w) (is_new a) same) some_lost ends.own
     where

@@ -1,4 +1,4 @@
--- The layout and the key of a pass, as they come from a home or a lead.
+-- The layout and the key of a pass, as they come from the map's owner or from a lead.
 use Rattle.std.proofs.Common.{◌≡◌, ℕ, ◌/◌, ◌^◌, ◌<◌, ◌≤◌, arith, ap, refl, sym, ◌∙◌, subst, Option, Some, None}
 use Rattle.bcl_segment.specs.declared.layout.Layout.{Layout}
 use Rattle.bcl_segment.specs.Places as segment

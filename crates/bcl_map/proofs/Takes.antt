@@ -72,6 +72,9 @@ module _ (kw vw : ℕ) (key value : List ℕ → Bool) (op : Words → Words →
       m : ℕ
       m = ready kw vw op L k
 
+      plain : ready kw vw op L k ≡ 2 + home L k * 256
+      plain = omega arith
+
       tells : ℕ → Pairs → List (MapCall Words Words) → Note → Type 0
       tells n' t' did y = Takes kw vw op L c k v d x n' t' did y × (AreTyped key value t' → AreTyped key value (state_by (next op L) t' did))
 
@@ -138,7 +141,7 @@ module _ (kw vw : ℕ) (key value : List ℕ → Bool) (op : Words → Words →
           let fit : Fits kw vw L owning us (with_pair k v t) (set notes r y) = changes kw vw L owning ws us t (with_pair k v t) notes f r x y i a is
           (λ j _. same_at claims (λ _. refl) j) l (length-set ws w m) (same_words kw vw L ws i 0 w m (omega arith) refl)
           (record {
-            shows = that_word kw vw L owning ws t notes f i 0 w m l (omega arith) refl;
+            shows = that_word kw vw L owning ws t notes f i 0 w m l (omega arith) refl ∙ plain;
             read = unread;
             content = ((long_k, long_v, st.there), (λ g lt. absurd (omega arith)), omega arith, tt, (refl, own), record { note = y; there = set_here notes r y x is; says = inl refl });
           })

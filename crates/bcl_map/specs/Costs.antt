@@ -1,4 +1,4 @@
--- What an insertion costs: each exchange that it loses is covered by a key that another rank inserted meanwhile.
+-- What an insertion costs: of its exchanges at most as many are lost as other ranks inserted keys since its pass had last seen the history.
 use Rattle.std.specs.Prelude.{ℕ, ◌+◌, ◌==◌, List, [], ◌∷◌, length, drop, if◌then◌else◌}
 use Rattle.bcl_event.specs.declared.event.Event.{Event}
 use Rattle.bcl_event.specs.History.{state_after}
@@ -25,7 +25,7 @@ abbrev pub others_new : ℕ → Events → ℕ
 others_new r [] = 0
 others_new r (e ∷ es) = (if e.rank == r then 0 else is_new e.reply) + others_new r es
 
--- how many buckets other ranks took, of what a pass has come to see
+-- how many keys other ranks inserted, of what a pass has come to see
 abbrev pub taken : MapView → MapView → ℕ
 taken old new = others_new old.rank (drop (length old.seen) new.seen)
 

@@ -1,6 +1,8 @@
 -- What the steps of an insertion tell.
 -- An insertion walks along the path of its key as a find does. At a FREE place it tries one exchange; where that is lost, another rank has taken the place, and the insertion looks again.
-use Rattle.std.specs.Prelude.{◌≡◌, ◌≢◌, ℕ, suc, ◌+◌, ◌*◌, ◌<◌, ◌≤◌, ◌⊎◌, List, [], ◌∷◌, length, slice_index, Bool, true, false}
+use Rattle.std.specs.Prelude.{◌≡◌, ◌≢◌, ℕ, suc, ◌+◌, ◌<◌, ◌≤◌, ◌⊎◌, List, [], ◌∷◌, length, slice_index, Bool, true, false}
+use Rattle.bcl_bucket.specs.Controls.{word_of}
+use Rattle.bcl_bucket.specs.declared.control.State.TheVariants.{Ready}
 use Rattle.bcl_event.specs.History.{state_by}
 use Rattle.bcl_event.specs.declared.map.MapCall.{MapCall}
 use Rattle.bcl_event.specs.declared.map.MapCall.TheVariants.{Insert, Merge}
@@ -117,7 +119,7 @@ module _ (kw vw : ℕ) (op : Words → Words → Words) (L : Shape) where
 
   -- a READY control word without readers
   abbrev pub ready : Words → ℕ
-  ready k = 2 + home L k * 256
+  ready k = word_of (record { state = Ready; home = home L k; readers = 0 })
 
   -- the exchange of FREE to READY
   pub record Takes (c : MapCall Words Words) (k v : Words) (d : ℕ) (x : Note) (n : ℕ) (t : Pairs) (did : List (MapCall Words Words)) (y : Note) : Type 0 where

@@ -83,7 +83,7 @@ abbrev pub words_put : ℕ → ℕ → Option Inserted → ℕ
 words_put kw vw None = 0
 words_put kw vw (Some inserted) = words_put_by kw vw inserted
 
--- how many exchanges it makes at most, as other ranks took so many buckets meanwhile
+-- how many exchanges it makes at most, where other ranks inserted so many keys since its pass had last seen the history
 abbrev pub most_atomics : ℕ → Inserted → ℕ
 most_atomics taken was_new = taken + 1
 most_atomics taken was_replaced = 0

@@ -17,7 +17,7 @@ ghost use Rattle.bcl_map.specs.Calls.{IsBucketAt};
 ghost use Rattle.bcl_map.specs.Inserts.{writing, strays, old_of};
 ghost use Rattle.bcl_map.specs.Reaches.{KnowsOwn, Comes, Ends, IsHeading, IsMatching, IsFacing, IsPast, Meets, Inserts, words_put};
 
-use crate::control::{names, ready};
+use crate::control::{names_home, ready};
 use crate::map::Map;
 use crate::walk::word;
 use bcl_phase::{Lead, Own, Pass};
@@ -319,7 +319,7 @@ pub(crate) fn insert_at<K: Object, V: Object, L: MergeLaw<V>>(
         }
         control = see_again(pass, lead, at, key, value, number);
     }
-    if names(control, home) && has_key(pass, lead, at, key, value, number) {
+    if names_home(control, home) && has_key(pass, lead, at, key, value, number) {
         replace(pass, lead, at, key, value, number);
         return Some(Inserted::Replaced);
     }

@@ -16,7 +16,7 @@ ghost use Rattle.bcl_map.specs.Calls.{Stands, IsBucketAt, IsPassed};
 ghost use Rattle.bcl_map.specs.declared.look.Look.TheVariants.{Absent as not_there};
 ghost use Rattle.bcl_map.specs.Looks.{Looks, most_gets};
 
-use crate::control::names;
+use crate::control::names_home;
 use crate::map::Map;
 use crate::walk::word;
 use bcl_phase::{Lead, Pass, Promise};
@@ -148,7 +148,7 @@ pub(crate) fn look_at<K: Object, V: Object, L: MergeLaw<V>, P: Promise>(
     if control == 0 {
         return Look::Absent;
     }
-    if names(control, home) && same_key(pass, lead, at, key, number) {
+    if names_home(control, home) && same_key(pass, lead, at, key, number) {
         return Look::Found(value(pass, lead, at, key, number));
     }
     if last { Look::Absent } else { Look::Passed }

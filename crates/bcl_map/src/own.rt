@@ -81,9 +81,10 @@ impl<K: Object, V: Object, L: MergeLaw<V>> MapPass<Own, K, V, L> {
     /// Stores a value for a key, in the place of its old one if it has one. It refuses for want of a bucket alone, where
     /// each is in use by another key: `Full`.
     ///
-    /// A new key costs one exchange for each free bucket that it meets, of which at most as many are lost as other ranks
-    /// inserted keys meanwhile; it takes place at the one that is won. A key that is there costs none, and takes place at
-    /// the first put of its new value. `Full` takes place at the last get of the key's path.
+    /// A new key takes place at the exchange by which it takes a free bucket. It makes at most one exchange more than
+    /// other ranks inserted keys since this pass had last seen the history, who may have taken buckets that it met free.
+    /// `Full` makes at most as many, and takes place at the last get of the key's path. A key that is there makes none,
+    /// and takes place at the first put of its new value.
     ///
     /// Condition: the key's home is this rank, as `is_mine` tells.
     #[inline]

@@ -7,7 +7,7 @@ use Rattle.bcl_map.specs.Map.{places}
 use Rattle.bcl_map.specs.Inserts.{strays}
 use Rattle.bcl_map.specs.Reaches.{IsPast, Meets}
 use Rattle.bcl_map.proofs.Reached.{comes_trans, ends_behind, ends_still, past_behind, meets_behind}
-use Rattle.bcl_map.proofs.insert.insert_at.Goals.{then-control-eq0+else-take, else-control-eq0, else-names-via-then-names+else-has_key, else-names-via-else-names}
+use Rattle.bcl_map.proofs.insert.insert_at.Goals.{then-control-eq0+else-take, else-control-eq0, else-names_home-via-then-names_home+else-has_key, else-names_home-via-else-names_home}
 use Rattle.bcl_map.proofs.insert.insert_at.Goals as goal
 
 pub returns-then-take-clause-inserts : goal.returns-then-take-clause-inserts
@@ -27,7 +27,7 @@ returns-then-has_key-clause-inserts g c = let op = g.L.MergeLaw.op in let L = le
       | else-control-eq0 w ↦
           subst (λ (z : _ × ℕ). Meets op L call k d z.1 u (pass_view z.0)) (λ i. (sym w.pass-is i, sym w.control-is i)) (c.see-control.ensures.used w.if-control-eq0.false)
     ] in
-    let same = met.same_home (c.names.ensures.names.0 c.if-names.true ∙ c.requires.home) in let has = c.has_key.ensures.same c.if-has_key.true in
+    let same = met.same_home (c.names_home.ensures.names.0 c.if-names_home.true ∙ c.requires.home) in let has = c.has_key.ensures.same c.if-has_key.true in
     let w = pass_view c.has_key.new.pass in let z = pass_view c.replace.new.pass in let came = comes_trans op L u m w same.0 has.0 in let fresh = came.fresh (ap strays has.1) in
     (ends_behind op L call Replaced u w z came c.replace.ensures.ends, c.replace.ensures.rest, fresh.0, c.replace.ensures.atomics ∙ fresh.1)
 
@@ -42,12 +42,12 @@ returns-then-last-clause-inserts g c = let op = g.L.MergeLaw.op in let L = lead_
       | else-control-eq0 w ↦
           subst (λ (z : _ × ℕ). Meets op L call k d z.1 u (pass_view z.0)) (λ i. (sym w.pass-is i, sym w.control-is i)) (c.see-control.ensures.used w.if-control-eq0.false)
     ] in
-    let past : IsPast op L call k d u (pass_view c.else-names.pass) = elim c.else-names.branch [
-      | else-names-via-then-names+else-has_key w ↦
-          let same = met.same_home (c.names.ensures.names.0 w.if-names.true ∙ c.requires.home) in
+    let past : IsPast op L call k d u (pass_view c.else-names_home.pass) = elim c.else-names_home.branch [
+      | else-names_home-via-then-names_home+else-has_key w ↦
+          let same = met.same_home (c.names_home.ensures.names.0 w.if-names_home.true ∙ c.requires.home) in
           subst (λ (p : _). IsPast op L call k d u (pass_view p)) (sym w.pass-is) (past_behind op L call k d u m (pass_view w.has_key.new.pass) same.0 (w.has_key.ensures.other w.if-has_key.false))
-      | else-names-via-else-names w ↦
-          subst (λ (p : _). IsPast op L call k d u (pass_view p)) (sym w.pass-is) (met.other_home (λ e. false≢true (sym w.if-names.false ∙ c.names.ensures.names.1 (e ∙ sym c.requires.home))))
+      | else-names_home-via-else-names_home w ↦
+          subst (λ (p : _). IsPast op L call k d u (pass_view p)) (sym w.pass-is) (met.other_home (λ e. false≢true (sym w.if-names_home.false ∙ c.names_home.ensures.names.1 (e ∙ sym c.requires.home))))
     ] in
     past.ends (let over = c.requires.last.0 c.if-last.true in omega arith)
 
@@ -62,12 +62,12 @@ returns-else-last-clause-inserts g c = let op = g.L.MergeLaw.op in let L = lead_
       | else-control-eq0 w ↦
           subst (λ (z : _ × ℕ). Meets op L call k d z.1 u (pass_view z.0)) (λ i. (sym w.pass-is i, sym w.control-is i)) (c.see-control.ensures.used w.if-control-eq0.false)
     ] in
-    let past : IsPast op L call k d u (pass_view c.else-names.pass) = elim c.else-names.branch [
-      | else-names-via-then-names+else-has_key w ↦
-          let same = met.same_home (c.names.ensures.names.0 w.if-names.true ∙ c.requires.home) in
+    let past : IsPast op L call k d u (pass_view c.else-names_home.pass) = elim c.else-names_home.branch [
+      | else-names_home-via-then-names_home+else-has_key w ↦
+          let same = met.same_home (c.names_home.ensures.names.0 w.if-names_home.true ∙ c.requires.home) in
           subst (λ (p : _). IsPast op L call k d u (pass_view p)) (sym w.pass-is) (past_behind op L call k d u m (pass_view w.has_key.new.pass) same.0 (w.has_key.ensures.other w.if-has_key.false))
-      | else-names-via-else-names w ↦
-          subst (λ (p : _). IsPast op L call k d u (pass_view p)) (sym w.pass-is) (met.other_home (λ e. false≢true (sym w.if-names.false ∙ c.names.ensures.names.1 (e ∙ sym c.requires.home))))
+      | else-names_home-via-else-names_home w ↦
+          subst (λ (p : _). IsPast op L call k d u (pass_view p)) (sym w.pass-is) (met.other_home (λ e. false≢true (sym w.if-names_home.false ∙ c.names_home.ensures.names.1 (e ∙ sym c.requires.home))))
     ] in
     let more : suc d < places L = ⊎_elim (λ (less : suc d < places L). less) (λ (over : places L ≤ suc d). absurd (false≢true (sym c.if-last.false ∙ c.requires.last.1 (omega arith)))) (cases_lt (suc d) (places L)) in
     let on = past.on more in (more, on.0, on.1)

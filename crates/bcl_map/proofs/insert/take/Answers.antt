@@ -1,5 +1,7 @@
-use Rattle.std.proofs.Common.{ℕ, ◌+◌, ◌*◌, inl, refl, sym, ap, ◌∙◌, subst, arith}
+use Rattle.std.proofs.Common.{ℕ, inl, refl, sym, ap, ◌∙◌, subst, arith}
 use Rattle.std.specs.Prelude.{◌==◌, if◌then◌else◌}
+use Rattle.bcl_bucket.specs.Controls.{word_of}
+use Rattle.bcl_bucket.specs.declared.control.State.TheVariants.{Ready}
 use Rattle.bcl_event.specs.declared.map.MapCall.TheVariants.{Insert}
 use Rattle.bcl_phase.specs.Rule.{Moves}
 use Rattle.bcl_phase.specs.Parts.{lead_key, lead_heads, lead_layout, lead_word, pass_view}
@@ -21,4 +23,4 @@ cas-requires-clause-step g c = let lead = c.args.lead.now in let L = lead_key le
     (take_step kw vw g.K.Object.passes g.V.Object.passes op L (lawful kw vw (lead_heads lead) (lead_layout lead) L c.requires.shape) v.rank (Insert k value) k value d c.requires.mine c.requires.mine (inl refl) _ _ v.note
     c.requires.number c.requires.words.0 c.requires.value_words.0 c.requires.words.1 c.requires.value_words.1 c.requires.facing.0
     (word_is kw vw (lead_heads lead) (lead_layout lead) L c.requires.shape c.args.at (path L k d) 0 c.word.result c.requires.at c.word.ensures.spot)
-    (c.ready.ensures.word ∙ ap (λ (z : ℕ). 2 + z * 256) c.requires.home))
+    (c.ready.ensures.word ∙ ap (λ (z : ℕ). word_of (record { state = Ready; home = z; readers = 0 })) c.requires.home))

@@ -12,7 +12,7 @@ use Rattle.bcl_map.specs.Notes.{Note}
 use Rattle.bcl_map.specs.Finds.{MaySee}
 use Rattle.bcl_map.specs.Calls.{Stands, IsPassed}
 use Rattle.bcl_map.proofs.Looks.{lawful, word_is, control_step, passed_by, passed_behind}
-use Rattle.bcl_map.proofs.look.look_at.Goals.{else-names-via-then-names+else-same_key, else-names-via-else-names}
+use Rattle.bcl_map.proofs.look.look_at.Goals.{else-names_home-via-then-names_home+else-same_key, else-names_home-via-else-names_home}
 use Rattle.bcl_map.proofs.look.look_at.Goals as goal
 
 pub get-control-requires-clause-step : goal.get-control-requires-clause-step
@@ -26,12 +26,12 @@ returns-then-control-eq0-clause-looks g c = let step = c.get-control.ensures in 
     (stands_one ranks first_pairs (next g.L.MergeLaw.op) permits (lead_key c.args.lead.now) get (pass_view c.args.pass.now) (pass_view c.get-control.new.self) _ c.get-control.result (Find c.args.key.now) Absent step.took step.told end.0 end.1, ap (λ (x : Note). x.claims) end.2)
 
 pub same_key-requires-clause-compares : goal.same_key-requires-clause-compares
-same_key-requires-clause-compares g c κs outlives = let go = c.get-control.ensures.told.fact.0.same_home c.if-control-eq0.false (c.names.ensures.names.0 c.if-names.true ∙ c.requires.home) in ap (λ (x : Note). x.claims) go.1
+same_key-requires-clause-compares g c κs outlives = let go = c.get-control.ensures.told.fact.0.same_home c.if-control-eq0.false (c.names_home.ensures.names.0 c.if-names_home.true ∙ c.requires.home) in ap (λ (x : Note). x.claims) go.1
 
 pub returns-then-same_key-clause-looks : goal.returns-then-same_key-clause-looks
 returns-then-same_key-clause-looks g c = let step = c.get-control.ensures in let k = lead_key c.args.lead.now in let key = c.args.key.now in
     let u = pass_view c.args.pass.now in let v = pass_view c.get-control.new.self in let w = pass_view c.same_key.new.pass in let z = pass_view c.value.new.pass in
-    let go = step.told.fact.0.same_home c.if-control-eq0.false (c.names.ensures.names.0 c.if-names.true ∙ c.requires.home) in
+    let go = step.told.fact.0.same_home c.if-control-eq0.false (c.names_home.ensures.names.0 c.if-names_home.true ∙ c.requires.home) in
     let first : Still u v = still_by ranks first_pairs (next g.L.MergeLaw.op) permits k get u v _ c.get-control.result step.took step.told go.0 in
     let both : Still u w = still_trans u v w first (c.same_key.ensures.same c.if-same_key.true).0 in
     (subst (λ (r : ℕ). Stands g.L.MergeLaw.op k u z (event r (Find key) (Value (g.V.Object.words c.value.result)) ∷ [])) both.same.same_rank (stands_behind ranks first_pairs (next g.L.MergeLaw.op) permits k u w z _ both c.value.ensures.stands), c.value.ensures.rest)
@@ -40,14 +40,14 @@ pub returns-then-last-clause-looks : goal.returns-then-last-clause-looks
 returns-then-last-clause-looks g c =
     let step = c.get-control.ensures in let k = lead_key c.args.lead.now in let key = c.args.key.now in let d = c.args.number in
     let u = pass_view c.args.pass.now in let v = pass_view c.get-control.new.self in
-    let passed : IsPassed g.L.MergeLaw.op k key d u (pass_view c.else-names.pass) = elim c.else-names.branch [
-      | else-names-via-then-names+else-same_key w ↦
-          let go = step.told.fact.0.same_home c.if-control-eq0.false (c.names.ensures.names.0 w.if-names.true ∙ c.requires.home) in
+    let passed : IsPassed g.L.MergeLaw.op k key d u (pass_view c.else-names_home.pass) = elim c.else-names_home.branch [
+      | else-names_home-via-then-names_home+else-same_key w ↦
+          let go = step.told.fact.0.same_home c.if-control-eq0.false (c.names_home.ensures.names.0 w.if-names_home.true ∙ c.requires.home) in
           subst (λ (p : _). IsPassed g.L.MergeLaw.op k key d u (pass_view p)) (sym w.pass-is)
           (passed_behind g.K.Object.WORDS g.V.Object.WORDS g.L.MergeLaw.op k key d v (pass_view w.same_key.new.pass) u (still_by ranks first_pairs (next g.L.MergeLaw.op) permits k get u v _ c.get-control.result step.took step.told go.0) (w.same_key.ensures.other w.if-same_key.false))
-      | else-names-via-else-names w ↦
+      | else-names_home-via-else-names_home w ↦
           subst (λ (p : _). IsPassed g.L.MergeLaw.op k key d u (pass_view p)) (sym w.pass-is)
-          (passed_by g.K.Object.WORDS g.V.Object.WORDS g.L.MergeLaw.op k key d u v _ c.get-control.result step.took step.told (step.told.fact.0.other_home c.if-control-eq0.false (λ e. false≢true (sym w.if-names.false ∙ c.names.ensures.names.1 (e ∙ sym c.requires.home)))))
+          (passed_by g.K.Object.WORDS g.V.Object.WORDS g.L.MergeLaw.op k key d u v _ c.get-control.result step.took step.told (step.told.fact.0.other_home c.if-control-eq0.false (λ e. false≢true (sym w.if-names_home.false ∙ c.names_home.ensures.names.1 (e ∙ sym c.requires.home)))))
     ] in
     passed.ends (let over = c.requires.last.0 c.if-last.true in omega arith)
 
@@ -55,14 +55,14 @@ pub returns-else-last-clause-looks : goal.returns-else-last-clause-looks
 returns-else-last-clause-looks g c =
     let step = c.get-control.ensures in let k = lead_key c.args.lead.now in let key = c.args.key.now in let d = c.args.number in
     let u = pass_view c.args.pass.now in let v = pass_view c.get-control.new.self in
-    let passed : IsPassed g.L.MergeLaw.op k key d u (pass_view c.else-names.pass) = elim c.else-names.branch [
-      | else-names-via-then-names+else-same_key w ↦
-          let go = step.told.fact.0.same_home c.if-control-eq0.false (c.names.ensures.names.0 w.if-names.true ∙ c.requires.home) in
+    let passed : IsPassed g.L.MergeLaw.op k key d u (pass_view c.else-names_home.pass) = elim c.else-names_home.branch [
+      | else-names_home-via-then-names_home+else-same_key w ↦
+          let go = step.told.fact.0.same_home c.if-control-eq0.false (c.names_home.ensures.names.0 w.if-names_home.true ∙ c.requires.home) in
           subst (λ (p : _). IsPassed g.L.MergeLaw.op k key d u (pass_view p)) (sym w.pass-is)
           (passed_behind g.K.Object.WORDS g.V.Object.WORDS g.L.MergeLaw.op k key d v (pass_view w.same_key.new.pass) u (still_by ranks first_pairs (next g.L.MergeLaw.op) permits k get u v _ c.get-control.result step.took step.told go.0) (w.same_key.ensures.other w.if-same_key.false))
-      | else-names-via-else-names w ↦
+      | else-names_home-via-else-names_home w ↦
           subst (λ (p : _). IsPassed g.L.MergeLaw.op k key d u (pass_view p)) (sym w.pass-is)
-          (passed_by g.K.Object.WORDS g.V.Object.WORDS g.L.MergeLaw.op k key d u v _ c.get-control.result step.took step.told (step.told.fact.0.other_home c.if-control-eq0.false (λ e. false≢true (sym w.if-names.false ∙ c.names.ensures.names.1 (e ∙ sym c.requires.home)))))
+          (passed_by g.K.Object.WORDS g.V.Object.WORDS g.L.MergeLaw.op k key d u v _ c.get-control.result step.took step.told (step.told.fact.0.other_home c.if-control-eq0.false (λ e. false≢true (sym w.if-names_home.false ∙ c.names_home.ensures.names.1 (e ∙ sym c.requires.home)))))
     ] in
     let less : suc d < places k = ⊎_elim (λ (l : suc d < places k). l) (λ (most : places k ≤ suc d). absurd (false≢true (sym c.if-last.false ∙ c.requires.last.1 (omega arith)))) (cases_lt (suc d) (places k)) in
     let on = passed.on less in (less, on.0, on.1)
