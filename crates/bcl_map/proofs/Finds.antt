@@ -1,5 +1,5 @@
 -- The steps of a find.
-use Rattle.std.proofs.Common.{◌≡◌, ◌≢◌, ℕ, zero, suc, ◌+◌, ◌*◌, ◌<◌, ◌≤◌, inl, inr, List, [], ◌∷◌, length, take, get_or, slice_index, slice_set, refl, sym, ap, ◌∙◌, subst, ⊎_elim, arith, Some}
+use Rattle.std.proofs.Common.{◌≡◌, ◌≢◌, ℕ, zero, suc, ◌+◌, ◌*◌, ◌<◌, ◌≤◌, List, [], ◌∷◌, length, take, get_or, slice_index, slice_set, refl, sym, ap, ◌∙◌, subst, ⊎_elim, arith, Some}
 use Rattle.std.proofs.lemmas.List.Elements.{All-nil, All-cons}
 use Rattle.std.specs.List.{All}
 use Rattle.std.proofs.Common.{◌-◌}
@@ -22,7 +22,7 @@ use Rattle.bcl_map.specs.declared.note.Lock.TheVariants.{Shown as shown, Reserve
 use Rattle.bcl_map.specs.declared.note.Before.{Before}
 use Rattle.bcl_map.specs.Map.{places, Words, Lawful, finding, owning, filling, home, path, next, HasPlace, permits, size, tag, Lies, content}
 use Rattle.bcl_map.specs.Cells.{Cell, free, kept, busy, key_of, used, Bars, control}
-use Rattle.bcl_map.specs.Notes.{Claim, passed, keyed, alike, settled, certain, lacking, lent, grips, many, met, Note, Has, Knows, reads, reads_all, readers, Says, AllSay}
+use Rattle.bcl_map.specs.Notes.{Claim, passed, keyed, alike, settled, certain, lacking, lent, grips, many, met, Note, Has, reads, reads_all, readers, Says, AllSay}
 use Rattle.bcl_map.specs.Fits.{HasValue, MayWrite, Named, IsContent, PlaceOk, Fits, AreTyped, Holds}
 use Rattle.bcl_map.specs.Steps.{with_claims, Step, control_at}
 use Rattle.std.specs.Prelude.{Bool}
@@ -31,7 +31,7 @@ use Rattle.bcl_map.specs.Finds.{Typed, MaySee, walked, comparing, reading, Passe
 use Rattle.bcl_map.proofs.Keys.{no_value}
 use Rattle.bcl_map.proofs.Counts.{bars_key}
 use Rattle.bcl_map.proofs.Frames.{SameAt}
-use Rattle.bcl_map.proofs.Known.{knows_passed}
+use Rattle.bcl_map.proofs.Known.{walked_knows, knows_passed}
 use Rattle.bcl_map.proofs.Gets.{near, shows_tag, absent_behind, absent_at_end, gets}
 
 -- ---- claims that read no place and write none
@@ -81,11 +81,6 @@ plain_same x as' bs e plain plain' j = (
 pub walked_plain : (k : Words) (d : ℕ) → ArePlain (walked k d)
 walked_plain k zero = tt
 walked_plain k (suc d) = (tt, tt)
-
--- a walk knows the places that it has passed
-pub walked_knows : (k : Words) (d : ℕ) → Knows k d (walked k d)
-walked_knows k zero = inl refl
-walked_knows k (suc d) = inr (suc d, omega arith, inl refl)
 
 -- ---- the words of keys and values
 

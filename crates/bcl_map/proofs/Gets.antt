@@ -30,7 +30,7 @@ module _ (L : Shape) (law : Lawful L) where
   pub near : (k : Words) (d : ℕ) → path L k d < places L
   near k d = mod-lt _ law.some_place
 
-  -- a home has a field of a control word
+  -- a home fits into its field of a control word
   pub low_home : (k : Words) → home L k < 256
   low_home k = let under : home L k < L.ranks = (div-lt_iff_lt-mul {k = L.per_rank} {x = begins_at L k} {y = L.ranks} per).1 (mod-lt _ law.some_place) in let few = law.few_ranks in omega arith
     where

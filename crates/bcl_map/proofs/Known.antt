@@ -1,10 +1,21 @@
 -- What is known by the claims of a note.
-use Rattle.std.proofs.Common.{◌≡◌, ℕ, ◌≤◌, List, [], ◌∷◌, subst, ⊎_elim, arith}
+use Rattle.std.proofs.Common.{◌≡◌, ℕ, zero, suc, ◌≤◌, inl, inr, List, [], ◌∷◌, Bool, true, false, refl, subst, ⊎_elim, arith}
 use Rattle.bcl_map.specs.declared.shape.Shape.{Shape}
 use Rattle.bcl_event.specs.Map.{Pairs}
 use Rattle.bcl_map.specs.Map.{Words}
 use Rattle.bcl_map.specs.Cells.{Cell}
 use Rattle.bcl_map.specs.Notes.{Claim, passed, Has, Knows, Says, AllSay}
+use Rattle.bcl_map.specs.Finds.{walked}
+use Rattle.bcl_map.specs.Inserts.{heading}
+
+-- a walk knows the places that it has passed
+pub walked_knows : (k : Words) (d : ℕ) → Knows k d (walked k d)
+walked_knows k zero = inl refl
+walked_knows k (suc d) = inr (suc d, omega arith, inl refl)
+
+pub heading_knows : (strayed : Bool) (k : Words) (d b : ℕ) → Knows k d (heading strayed k d b)
+heading_knows false k d b = walked_knows k d
+heading_knows true k d b = inr (d, omega arith, inl refl)
 
 module _ (L : Shape) (p : ℕ) (t : Pairs) (cells : List Cell) (r : ℕ) where
   -- a claim of the note holds

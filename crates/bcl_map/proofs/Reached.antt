@@ -19,14 +19,15 @@ use Rattle.bcl_map.specs.declared.note.Note.{Note}
 use Rattle.bcl_map.specs.declared.note.Before.{Before}
 use Rattle.bcl_map.specs.declared.note.Before.TheVariants.{Nothing, Value as before}
 use Rattle.bcl_map.specs.Map.{Words, ranks, first_pairs, next, permits}
-use Rattle.bcl_map.specs.Notes.{Claim, alike}
+use Rattle.bcl_map.specs.Notes.{Claim, alike, Knows}
 use Rattle.bcl_map.specs.Steps.{Goes_on}
 use Rattle.bcl_map.specs.Finds.{walked, reading, value_of}
 use Rattle.bcl_map.specs.Inserts as steps
-use Rattle.bcl_map.specs.Inserts.{heading, matching, facing, writing, strays, least, SeesControl, SeesAgain, SeesKey, Takes, PutsWord, Replaces}
+use Rattle.bcl_map.specs.Inserts.{heading, matching, facing, writing, strays, least, SeesControl, SeesKey, Takes, PutsWord, Replaces}
 use Rattle.bcl_map.specs.Calls.{MapView, Stands}
 use Rattle.bcl_map.specs.Costs.{Events, is_new, others_new, taken, keys}
 use Rattle.bcl_map.specs.Reaches.{KnowsOwn, IsHeading, IsMatching, level, Comes, Ends, IsFacing, IsPast, Meets}
+use Rattle.bcl_map.proofs.Known.{heading_knows}
 use Rattle.bcl_map.proofs.Taken.{others_more, keys_rise, keys_past}
 
 -- ---- what the claims of a walk say
@@ -118,6 +119,11 @@ module _ (op : Words → Words → Words) (L : Shape) where
     other_home = λ other. past_behind c k d u v w comes (meets.other_home other);
   }
 
+  -- a second look at a place, behind a lost exchange
+  pub meets_again : (c : MapCall Words Words) (k : Words) (d n : ℕ) (u v m w : MapView) → Comes op L u v → Comes op L v m → IsHeading k (d + 1) m → (Knows k (d + 1) m.note.claims → n ≢ 0) → (n ≢ 0 → Meets op L c k d n m w) → Meets op L c k d n u w
+  meets_again c k d n u v m w first second at some met = meets_behind c k d n u m w (comes_trans u v m first second)
+      (met (some (subst (Knows k (d + 1)) (sym at) (heading_knows (strays m.note.claims) k (d + 1) (least m.note.claims)))))
+
   -- ---- by one step
 
   -- where it is told how many keys there are, or nothing was told before, the level doesn't fall
@@ -195,13 +201,9 @@ module _ (op : Words → Words → Words) (L : Shape) where
       ),
     )
 
-    pub meets_by : (n : ℕ) → Took ranks first_pairs (next op) permits L get v w → IsHeading k d v → Told first_pairs (next op) L v (SeesControl kw vw op L c (strays v.note.claims) k d v.note) n w
+    pub meets_by : (n e : ℕ) → Took ranks first_pairs (next op) permits L get v w → IsHeading k e v → Told first_pairs (next op) L v (SeesControl kw vw op L c (strays v.note.claims) k d v.note) n w
         → n ≢ 0 → Meets op L c k d n v w
-    meets_by n took at told used = meets v w _ n took told told.fact.many (strays v.note.claims) refl (heading_none v.note.claims k d at) k d kw vw c n (told.fact.used used)
-
-    pub meets_again_by : (n : ℕ) → Took ranks first_pairs (next op) permits L get v w → strays v.note.claims ≡ true → Told first_pairs (next op) L v (SeesAgain kw vw op L c k d v.note) n w
-        → (n ≢ 0) × Meets op L c k d n v w
-    meets_again_by n took strayed told = (told.fact.some, meets v w _ n took told told.fact.many true strayed (λ no. absurd (true≢false no)) k d kw vw c n told.fact.used)
+    meets_by n e took at told used = meets v w _ n took told told.fact.many (strays v.note.claims) refl (heading_none v.note.claims k e at) k d kw vw c n (told.fact.used used)
 
     -- a get of a word of a key
     module _ (g n : ℕ) (took : Took ranks first_pairs (next op) permits L get v w) (at : IsMatching k d g v) (told : Told first_pairs (next op) L v (SeesKey kw vw op L c (strays v.note.claims) k d g v.note) n w) where
@@ -226,7 +228,7 @@ module _ (op : Words → Words → Words) (L : Shape) where
           one_more : (x y : ℕ) → x ≡ y + 1 → x ≤ y + 1
           one_more x y e = omega arith
 
-      pub lost_by : n ≢ 0 → Comes op L v w × IsHeading k (suc d) w × (strays w.note.claims ≡ true)
+      pub lost_by : n ≢ 0 → Comes op L v w × IsHeading k (suc d) w
       lost_by used = let on = told.fact.lost used in let claims : w.note.claims ≡ heading true k (suc d) (suc (least v.note.claims)) = ap (λ (x : Note). x.claims) on.1 in (
         record {
           still = still_by ranks first_pairs (next op) permits L atomic v w _ n took told on.0;
@@ -235,7 +237,6 @@ module _ (op : Words → Words → Words) (L : Shape) where
           fresh = not_strayed (strays w.note.claims) (ap strays claims);
         },
         is_heading w.note.claims true k (suc d) (suc (least v.note.claims)) claims,
-        ap strays claims,
       )
         where
           summed : (l m b x y : ℕ) → l ≤ b → suc b ≤ m → x ≡ y + 1 → l + x ≤ m + y

@@ -1,5 +1,5 @@
 -- The gets of an insertion.
-use Rattle.std.proofs.Common.{◌≡◌, ◌≢◌, ℕ, zero, suc, ◌+◌, ◌-◌, ◌*◌, ◌%◌, ◌<◌, ◌≤◌, inl, inr, List, [], ◌∷◌, length, get_or, slice_index, slice_set, refl, sym, ap, ap₂, ◌∙◌, subst, ⊎_elim, arith, Some, None, cond, eq-eqb, mod-lt}
+use Rattle.std.proofs.Common.{◌≡◌, ◌≢◌, ℕ, zero, suc, ◌+◌, ◌-◌, ◌*◌, ◌%◌, ◌<◌, ◌≤◌, inr, List, [], ◌∷◌, length, get_or, slice_index, slice_set, refl, sym, ap, ap₂, ◌∙◌, subst, ⊎_elim, arith, Some, None, cond, eq-eqb, mod-lt}
 use Rattle.std.specs.Prelude.{Bool, true, false}
 use Rattle.std.specs.List.{All}
 use Rattle.std.proofs.lemmas.List.Elements.{All-nil, All-cons}
@@ -20,16 +20,16 @@ use Rattle.bcl_phase.specs.Rule.{Moves}
 use Rattle.bcl_map.specs.declared.shape.Shape.{Shape}
 use Rattle.bcl_map.specs.Map.{places, Words, Lawful, owning, begins_at, home, path, next, permits, size, tag}
 use Rattle.bcl_map.specs.Cells.{Cell, free, key_of, used, Bars, control}
-use Rattle.bcl_map.specs.Notes.{Claim, passed, Note, Knows, readers, Says, AllSay}
+use Rattle.bcl_map.specs.Notes.{Claim, passed, Note, readers, Says, AllSay}
 use Rattle.bcl_map.specs.Fits.{HasValue, PlaceOk, Fits, AreTyped, Holds}
 use Rattle.bcl_map.specs.Steps.{with_claims, Step, control_at}
 use Rattle.bcl_map.specs.Finds.{MaySee, walked, reading}
-use Rattle.bcl_map.specs.Inserts.{heading, matching, facing, least, Stores, GoesPast, Meets, SeesControl, SeesAgain, SeesKey}
+use Rattle.bcl_map.specs.Inserts.{heading, matching, facing, least, Stores, GoesPast, Meets, SeesControl, SeesKey}
 use Rattle.bcl_map.proofs.Keys.{no_value}
 use Rattle.bcl_map.proofs.Counts.{bars_key, bars_used, is_full}
-use Rattle.bcl_map.proofs.Known.{knows_passed}
+use Rattle.bcl_map.proofs.Known.{heading_knows, knows_passed}
 use Rattle.bcl_map.proofs.Gets.{near, shows_tag, absent_behind, absent_at_end, passed_more, gets}
-use Rattle.bcl_map.proofs.Finds.{ArePlain, plain_same, walked_plain, walked_knows, key_word, own_words, same_object, by_cell, on, whole}
+use Rattle.bcl_map.proofs.Finds.{ArePlain, plain_same, walked_plain, key_word, own_words, same_object, by_cell, on, whole}
 
 -- ---- each place is on a path
 
@@ -47,10 +47,6 @@ on_path n first i low below = ⊎_elim
 heading_plain : (strayed : Bool) (k : Words) (d b : ℕ) → ArePlain (heading strayed k d b)
 heading_plain false k d b = walked_plain k d
 heading_plain true k d b = (tt, (tt, (tt, tt)))
-
-heading_knows : (strayed : Bool) (k : Words) (d b : ℕ) → Knows k d (heading strayed k d b)
-heading_knows false k d b = walked_knows k d
-heading_knows true k d b = inr (d, omega arith, inl refl)
 
 walked_least : (k : Words) (d : ℕ) → least (walked k d) ≡ 0
 walked_least k zero = refl
@@ -136,44 +132,35 @@ module _ (kw vw : ℕ) (op : Words → Words → Words) (L : Shape) (law : Lawfu
         (λ (ne : home L o ≢ home L k). past tells (bars_key k o (get_or f.cells (path L k d) free) there (λ z. ne (ap (home L) z)))
         (λ did y still goes. told did y still (record { same_home = λ z. absurd (ne (sym tag_is ∙ z)); other_home = λ _. goes })))
 
-  sees_control : (strayed : Bool) (x : Note) → x.claims ≡ heading strayed k d (least x.claims) → Step kw vw op L owning r x (control_at kw vw op L k d) (λ n. n) (SeesControl kw vw op L c strayed k d x)
-  sees_control strayed x at ws t notes is f small =
+  sees_control : (strayed : Bool) (e : ℕ) (x : Note) → d ≤ e → x.claims ≡ heading strayed k e (least x.claims) → Step kw vw op L owning r x (control_at kw vw op L k d) (λ n. n) (SeesControl kw vw op L c strayed k d x)
+  sees_control strayed e x upto at ws t notes is f small =
       let w : ℕ = control_at kw vw op L k d in
       let b : ℕ = least x.claims in
       let ok : PlaceOk kw vw L owning ws t notes (path L k d) (get_or f.cells (path L k d) free) = f.each (path L k d) (near L law k d) in
-      let says : AllSay L owning t f.cells r (heading strayed k d b) = subst (AllSay L owning t f.cells r) at (f.noted r x is) in
-      let enough : b ≤ length t = subst (λ (n : ℕ). n ≤ length t) (sym (ap least at)) (heading_least L owning t f.cells r k strayed d b says) in
-      let passes : Says L owning t f.cells r (passed k d) = heading_passed L owning t f.cells r k strayed d b says in
-      let plain = heading_plain strayed k d b in
+      let knew : AllSay L owning t f.cells r (heading strayed k e b) = subst (AllSay L owning t f.cells r) at (f.noted r x is) in
+      let enough : b ≤ length t = subst (λ (n : ℕ). n ≤ length t) (sym (ap least at)) (heading_least L owning t f.cells r k strayed e b knew) in
+      let passes : Says L owning t f.cells r (passed k d) = λ a below. heading_passed L owning t f.cells r k strayed e b knew a (omega arith) in
+      let says : AllSay L owning t f.cells r (heading strayed k d b) = heading_on L owning t f.cells r k strayed e b d b knew passes enough in
+      let plain = heading_plain strayed k e b in
       by_cell (get_or f.cells (path L k d) free) _
-      (λ (e : get_or f.cells (path L k d) free ≡ free).
-      let zero_there : slice_index ws w ≡ 0 = ok.shows ∙ ap (control L (readers (path L k d) notes)) e in
-      let none : used (get_or f.cells (path L k d) free) ≡ 0 = ap used e in
-      on kw vw op L law owning r k d sure x (heading strayed k d b) at plain ws t notes is f w (SeesControl kw vw op L c strayed k d x) (facing L k d (length t)) (tt, (tt, (tt, tt)))
+      (λ (hollow : get_or f.cells (path L k d) free ≡ free).
+      let zero_there : slice_index ws w ≡ 0 = ok.shows ∙ ap (control L (readers (path L k d) notes)) hollow in
+      let none : used (get_or f.cells (path L k d) free) ≡ 0 = ap used hollow in
+      on kw vw op L law owning r k d sure x (heading strayed k e b) at plain ws t notes is f w (SeesControl kw vw op L c strayed k d x) (facing L k d (length t)) (tt, (tt, (tt, tt)))
       (passes, (omega arith, ((sure, absent_behind L law kw vw owning ws t notes f k d passes none), tt)))
-      (record { still = refl; many = enough; free = λ _. (refl, refl); used = λ no. absurd (no zero_there) }))
-      (λ (o : Words) (e : key_of (get_or f.cells (path L k d) free) ≡ some o).
-      let shown_there = shows_tag L law (readers (path L k d) notes) (get_or f.cells (path L k d) free) o e in
+      (record {
+        still = refl;
+        many = enough;
+        some = λ knows. absurd (subst (Bars k) hollow (knows_passed L owning t f.cells r k (suc d) x.claims (f.noted r x is) knows d (omega arith)));
+        free = λ _. (refl, refl);
+        used = λ no. absurd (no zero_there);
+      }))
+      (λ (o : Words) (there : key_of (get_or f.cells (path L k d) free) ≡ some o).
+      let shown_there = shows_tag L law (readers (path L k d) notes) (get_or f.cells (path L k d) free) o there in
       let some_there : slice_index ws w ≢ 0 = λ z. shown_there.0 (sym ok.shows ∙ z) in
       let tag_is : tag (slice_index ws w) ≡ home L o = ap tag ok.shows ∙ shown_there.1 in
-      meets x (heading strayed k d b) at plain ws t notes is f w strayed b says (SeesControl kw vw op L c strayed k d x) o e tag_is
-      (λ did y still met. record { still = still; many = enough; free = λ z. absurd (some_there z); used = λ _. met }))
-
-  sees_again : (x : Note) → x.claims ≡ heading true k (suc d) (least x.claims) → Step kw vw op L owning r x (control_at kw vw op L k d) (λ n. n) (SeesAgain kw vw op L c k d x)
-  sees_again x at ws t notes is f small =
-      let w : ℕ = control_at kw vw op L k d in
-      let b : ℕ = least x.claims in
-      let ok : PlaceOk kw vw L owning ws t notes (path L k d) (get_or f.cells (path L k d) free) = f.each (path L k d) (near L law k d) in
-      let knew : AllSay L owning t f.cells r (heading true k (suc d) b) = subst (AllSay L owning t f.cells r) at (f.noted r x is) in
-      let says : AllSay L owning t f.cells r (heading true k d b) = heading_on L owning t f.cells r k true (suc d) b d b knew (λ e below. knew.0 e (omega arith)) knew.1.0 in
-      by_cell (get_or f.cells (path L k d) free) _
-      (λ (e : get_or f.cells (path L k d) free ≡ free). absurd (subst (Bars k) e (knew.0 d (omega arith))))
-      (λ (o : Words) (e : key_of (get_or f.cells (path L k d) free) ≡ some o).
-      let shown_there = shows_tag L law (readers (path L k d) notes) (get_or f.cells (path L k d) free) o e in
-      let some_there : slice_index ws w ≢ 0 = λ z. shown_there.0 (sym ok.shows ∙ z) in
-      let tag_is : tag (slice_index ws w) ≡ home L o = ap tag ok.shows ∙ shown_there.1 in
-      meets x (heading true k (suc d) b) at (heading_plain true k (suc d) b) ws t notes is f w true b says (SeesAgain kw vw op L c k d x) o e tag_is
-      (λ did y still met. record { still = still; many = knew.1.0; some = some_there; used = met }))
+      meets x (heading strayed k e b) at plain ws t notes is f w strayed b says (SeesControl kw vw op L c strayed k d x) o there tag_is
+      (λ did y still met. record { still = still; many = enough; some = λ _. some_there; free = λ z. absurd (some_there z); used = λ _. met }))
 
   sees_key : (strayed : Bool) (g : ℕ) (x : Note) → kw ≤ 8 → IsWords kw k → g < kw → x.claims ≡ matching strayed k d g (least x.claims) → Step kw vw op L owning r x (size kw vw * path L k d + (1 + g)) (λ n. n) (SeesKey kw vw op L c strayed k d g x)
   sees_key strayed g x room key_words low at ws t notes is f small =
@@ -233,16 +220,10 @@ still_step kw vw key value op L p r x i tells stays step ws t xs is h small = le
 
 module _ (kw vw : ℕ) (key value : List ℕ → Bool) (op : Words → Words → Words) (L : Shape) (law : Lawful L) (r : ℕ) (c : MapCall Words Words) (k v : Words) (d : ℕ) (own : home L k ≡ r) (may : permits L owning r c) (stores : Stores k v c) where
   -- a get of a control word
-  pub see_step : (strayed : Bool) (w : ℕ) (x : Note) → x.claims ≡ heading strayed k d (least x.claims) → w ≡ size kw vw * path L k d + 0
+  pub see_step : (strayed : Bool) (e w : ℕ) (x : Note) → d ≤ e → x.claims ≡ heading strayed k e (least x.claims) → w ≡ size kw vw * path L k d + 0
       → Moves (next op) permits (Holds kw vw key value) L owning r x w (λ n. n) (SeesControl kw vw op L c strayed k d x)
-  see_step strayed w x at is = subst (λ (z : ℕ). Moves (next op) permits (Holds kw vw key value) L owning r x z (λ n. n) (SeesControl kw vw op L c strayed k d x)) (sym is)
-      (still_step kw vw key value op L owning r x _ (SeesControl kw vw op L c strayed k d x) (λ n t did y told. told.still) (sees_control kw vw op L law r c k v d own may stores strayed x at))
-
-  -- a get behind a lost exchange
-  pub again_step : (w : ℕ) (x : Note) → x.claims ≡ heading true k (suc d) (least x.claims) → w ≡ size kw vw * path L k d + 0
-      → Moves (next op) permits (Holds kw vw key value) L owning r x w (λ n. n) (SeesAgain kw vw op L c k d x)
-  again_step w x at is = subst (λ (z : ℕ). Moves (next op) permits (Holds kw vw key value) L owning r x z (λ n. n) (SeesAgain kw vw op L c k d x)) (sym is)
-      (still_step kw vw key value op L owning r x _ (SeesAgain kw vw op L c k d x) (λ n t did y told. told.still) (sees_again kw vw op L law r c k v d own may stores x at))
+  see_step strayed e w x upto at is = subst (λ (z : ℕ). Moves (next op) permits (Holds kw vw key value) L owning r x z (λ n. n) (SeesControl kw vw op L c strayed k d x)) (sym is)
+      (still_step kw vw key value op L owning r x _ (SeesControl kw vw op L c strayed k d x) (λ n t did y told. told.still) (sees_control kw vw op L law r c k v d own may stores strayed e x upto at))
 
   -- a get of a word of a key
   pub match_step : (strayed : Bool) (g w : ℕ) (x : Note) → kw ≤ 8 → IsWords kw k → g < kw → x.claims ≡ matching strayed k d g (least x.claims) → w ≡ size kw vw * path L k d + (1 + g)

@@ -13,7 +13,7 @@ use Rattle.bcl_map.specs.declared.note.Lock.TheVariants.{Shown as shown}
 use Rattle.bcl_map.specs.declared.note.Before.{Before}
 use Rattle.bcl_map.specs.declared.note.Before.TheVariants.{Nothing, Value as before}
 use Rattle.bcl_map.specs.Map.{places, Words, home, path, next, tag}
-use Rattle.bcl_map.specs.Notes.{Claim, passed, keyed, alike, settled, certain, lacking, lent, grips, many, met, Note}
+use Rattle.bcl_map.specs.Notes.{Claim, passed, keyed, alike, settled, certain, lacking, lent, grips, many, met, Note, Knows}
 use Rattle.bcl_map.specs.Steps.{Goes_on, Answers}
 use Rattle.bcl_map.specs.Finds.{walked, reading}
 
@@ -95,19 +95,13 @@ module _ (kw vw : ℕ) (op : Words → Words → Words) (L : Shape) where
     pub same_home : tag n ≡ home L k → Goes_on x (matching strayed k d 0 (length t)) did y
     pub other_home : tag n ≢ home L k → GoesPast c strayed k d x t did y
 
-  -- a get of a control word
+  -- a get of a control word: the place isn't free where the walk knows more
   pub record SeesControl (c : MapCall Words Words) (strayed : Bool) (k : Words) (d : ℕ) (x : Note) (n : ℕ) (t : Pairs) (did : List (MapCall Words Words)) (y : Note) : Type 0 where
     pub still : state_by (next op L) t did ≡ t
     pub many : least x.claims ≤ length t
+    pub some : Knows k (suc d) x.claims → n ≢ 0
     pub free : n ≡ 0 → Goes_on x (facing L k d (length t)) did y
     pub used : n ≢ 0 → Meets c strayed k d x n t did y
-
-  -- a second get of it, behind a lost exchange
-  pub record SeesAgain (c : MapCall Words Words) (k : Words) (d : ℕ) (x : Note) (n : ℕ) (t : Pairs) (did : List (MapCall Words Words)) (y : Note) : Type 0 where
-    pub still : state_by (next op L) t did ≡ t
-    pub many : least x.claims ≤ length t
-    pub some : n ≢ 0
-    pub used : Meets c true k d x n t did y
 
   -- a get of the word g of a key
   pub record SeesKey (c : MapCall Words Words) (strayed : Bool) (k : Words) (d g : ℕ) (x : Note) (n : ℕ) (t : Pairs) (did : List (MapCall Words Words)) (y : Note) : Type 0 where

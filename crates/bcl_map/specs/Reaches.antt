@@ -22,6 +22,10 @@ KnowsOwn view = of view.rank view.seen ≡ view.mine
 abbrev pub IsHeading : Words → ℕ → MapView → Type 0
 IsHeading key number view = view.note.claims ≡ heading (strays view.note.claims) key number (least view.note.claims)
 
+-- so many are passed, or more
+abbrev pub HasPassed : Words → ℕ → MapView → Type 0
+HasPassed key number view = (more : ℕ) × (number ≤ more) × IsHeading key more view
+
 -- the walk is at a place of the same home, of whose key so many words are those of this one
 abbrev pub IsMatching : Words → ℕ → ℕ → MapView → Type 0
 IsMatching key number g view = view.note.claims ≡ matching (strays view.note.claims) key number g (least view.note.claims)

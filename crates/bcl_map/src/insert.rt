@@ -12,10 +12,11 @@ ghost use Rattle.bcl_map.specs.declared.note.Before.TheVariants.{Nothing, Value 
 ghost use Rattle.bcl_map.specs.declared.insert.Inserted.TheVariants.{New as was_new};
 ghost use Rattle.bcl_map.specs.Map as map;
 ghost use Rattle.bcl_map.specs.Map.{places, path, size, tag, IsShaped};
+ghost use Rattle.bcl_map.specs.Notes.{Knows};
 ghost use Rattle.bcl_map.specs.Finds.{reading, value_of};
 ghost use Rattle.bcl_map.specs.Calls.{IsBucketAt};
-ghost use Rattle.bcl_map.specs.Inserts.{writing, strays, old_of};
-ghost use Rattle.bcl_map.specs.Reaches.{KnowsOwn, Comes, Ends, IsHeading, IsMatching, IsFacing, IsPast, Meets, Inserts, words_put};
+ghost use Rattle.bcl_map.specs.Inserts.{writing, old_of};
+ghost use Rattle.bcl_map.specs.Reaches.{KnowsOwn, Comes, Ends, IsHeading, HasPassed, IsMatching, IsFacing, IsPast, Meets, Inserts, words_put};
 
 use crate::control::{names_home, ready};
 use crate::map::Map;
@@ -36,7 +37,7 @@ pub enum Inserted {
     Full,
 }
 
-/// The control word of the bucket with this number on the path of a key.
+/// The control word of the bucket with this number on the path of a key, of which the walk may know that it is in use.
 #[inline]
 fn see<K: Object, V: Object, L: MergeLaw<V>>(
     pass: &mut Pass<Map<K, V, L>, Own>,
@@ -52,37 +53,10 @@ fn see<K: Object, V: Object, L: MergeLaw<V>>(
     requires shape { IsShaped K.WORDS V.WORDS (lead_heads lead.now) (lead_layout lead.now) (lead_key lead.now) }
     requires at { IsBucketAt (size K.WORDS V.WORDS) (lead_layout lead.now) at (path (lead_key lead.now) key.now number) }
     requires mine { map.home (lead_key lead.now) key.now ≡ (pass_view pass.old).rank }
-    requires heading { IsHeading key.now number (pass_view pass.old) }
+    requires heading { HasPassed key.now number (pass_view pass.old) }
+    ensures some { Knows key.now (number + 1) (pass_view pass.old).note.claims → result ≢ 0 }
     ensures free { result ≡ 0 → Comes L.op (lead_key lead.now) (pass_view pass.old) (pass_view pass.new) × IsFacing L.op (lead_key lead.now) key.now number (pass_view pass.new) }
     ensures used { result ≢ 0 → Meets L.op (lead_key lead.now) (Insert key.now value.now) key.now number result (pass_view pass.old) (pass_view pass.new) }
-    ensures of { IsOf pass.new lead.now }
-    ensures gets { (pass_view pass.new).gets ≡ (pass_view pass.old).gets + 1 }
-    ensures puts { (pass_view pass.new).puts ≡ (pass_view pass.old).puts }
-    ensures atomics { (pass_view pass.new).atomics ≡ (pass_view pass.old).atomics }
-{
-    pass.get::<Brand, ([u64; 8], [u64; 8], u32)>(lead, word(at, 0), &(*key, *value, number))
-}
-
-/// The control word of a bucket that another rank has taken meanwhile.
-#[inline]
-fn see_again<K: Object, V: Object, L: MergeLaw<V>>(
-    pass: &mut Pass<Map<K, V, L>, Own>,
-    lead: &Lead<Map<K, V, L>>,
-    at: GlobalPtr,
-    key: &[u64; 8],
-    value: &[u64; 8],
-    number: u32,
-) -> u64
-    requires key { Fits K.WORDS }
-    requires value { Fits V.WORDS }
-    requires of { IsOf pass.old lead.now }
-    requires shape { IsShaped K.WORDS V.WORDS (lead_heads lead.now) (lead_layout lead.now) (lead_key lead.now) }
-    requires at { IsBucketAt (size K.WORDS V.WORDS) (lead_layout lead.now) at (path (lead_key lead.now) key.now number) }
-    requires mine { map.home (lead_key lead.now) key.now ≡ (pass_view pass.old).rank }
-    requires heading { IsHeading key.now (number + 1) (pass_view pass.old) }
-    requires strayed { strays (pass_view pass.old).note.claims ≡ true }
-    ensures some { result ≢ 0 }
-    ensures used { Meets L.op (lead_key lead.now) (Insert key.now value.now) key.now number result (pass_view pass.old) (pass_view pass.new) }
     ensures of { IsOf pass.new lead.now }
     ensures gets { (pass_view pass.new).gets ≡ (pass_view pass.old).gets + 1 }
     ensures puts { (pass_view pass.new).puts ≡ (pass_view pass.old).puts }
@@ -115,7 +89,7 @@ fn take<K: Object, V: Object, L: MergeLaw<V>>(
     requires facing { IsFacing L.op (lead_key lead.now) key.now number (pass_view pass.old) }
     requires own { KnowsOwn (pass_view pass.old) }
     ensures won { result ≡ true → Ends L.op (lead_key lead.now) (Insert key.now value.now) New (pass_view pass.old) (pass_view pass.new) × ((pass_view pass.new).note.claims ≡ writing (lead_key lead.now) key.now number Nothing value.now 0) }
-    ensures lost { result ≡ false → Comes L.op (lead_key lead.now) (pass_view pass.old) (pass_view pass.new) × IsHeading key.now (number + 1) (pass_view pass.new) × (strays (pass_view pass.new).note.claims ≡ true) }
+    ensures lost { result ≡ false → Comes L.op (lead_key lead.now) (pass_view pass.old) (pass_view pass.new) × IsHeading key.now (number + 1) (pass_view pass.new) }
     ensures of { IsOf pass.new lead.now }
     ensures gets { (pass_view pass.new).gets ≡ (pass_view pass.old).gets }
     ensures puts { (pass_view pass.new).puts ≡ (pass_view pass.old).puts }
@@ -130,8 +104,7 @@ fn take<K: Object, V: Object, L: MergeLaw<V>>(
     ).is_ok()
 }
 
-/// Whether the key of a bucket, whose home is this rank, is this one: a get of each of its words, up to the first that
-/// differs. There the bucket is passed.
+/// Whether the key of a bucket of this home is this one: a get of each of its words, up to the first that differs.
 #[inline]
 fn has_key<K: Object, V: Object, L: MergeLaw<V>>(
     pass: &mut Pass<Map<K, V, L>, Own>,
@@ -279,9 +252,8 @@ fn replace<K: Object, V: Object, L: MergeLaw<V>>(
     }
 }
 
-/// Tries the bucket with this number on the path of a key, whose home is this rank; `last` where no more follow.
-///
-/// Behind each exchange that it loses there is a get, by which it goes on.
+/// Tries the bucket with this number on the path of a key, whose home is this rank; `last` where no more follow. Behind
+/// each exchange that it loses there is a get, by which it goes on.
 #[inline]
 pub(crate) fn insert_at<K: Object, V: Object, L: MergeLaw<V>>(
     pass: &mut Pass<Map<K, V, L>, Own>,
@@ -317,7 +289,7 @@ pub(crate) fn insert_at<K: Object, V: Object, L: MergeLaw<V>>(
             put_pair(pass, lead, at, key, value, number);
             return Some(Inserted::New);
         }
-        control = see_again(pass, lead, at, key, value, number);
+        control = see(pass, lead, at, key, value, number);
     }
     if names_home(control, home) && has_key(pass, lead, at, key, value, number) {
         replace(pass, lead, at, key, value, number);

@@ -6,7 +6,7 @@ use Rattle.bcl_phase.specs.Parts.{lead_key, pass_view}
 use Rattle.bcl_map.specs.Map.{places}
 use Rattle.bcl_map.specs.Inserts.{strays}
 use Rattle.bcl_map.specs.Reaches.{IsPast, Meets}
-use Rattle.bcl_map.proofs.Reached.{comes_trans, ends_behind, ends_still, past_behind, meets_behind}
+use Rattle.bcl_map.proofs.Reached.{comes_trans, ends_behind, ends_still, past_behind, meets_again}
 use Rattle.bcl_map.proofs.insert.insert_at.Goals.{then-control-eq0+else-take, else-control-eq0, else-names_home-via-then-names_home+else-has_key, else-names_home-via-else-names_home}
 use Rattle.bcl_map.proofs.insert.insert_at.Goals as goal
 
@@ -16,6 +16,19 @@ returns-then-take-clause-inserts g c = let op = g.L.MergeLaw.op in let L = lead_
     let seen = c.see-control.ensures.free c.if-control-eq0.true in let won = c.take.ensures.won c.if-take.true in
     (ends_still op L call New u w z (ends_behind op L call New u v w seen.0 won.0) c.put_pair.ensures.still c.put_pair.ensures.atomics, c.put_pair.ensures.rest)
 
+pub has_key-requires-clause-matching : goal.has_key-requires-clause-matching
+has_key-requires-clause-matching g c κs within = let op = g.L.MergeLaw.op in let L = lead_key c.args.lead.now in let k = c.args.key.now in let d = c.args.number in let call = Insert k c.args.value.now in
+    let u = pass_view c.args.pass.now in let v = pass_view c.see-control.new.pass in let m = pass_view c.if-control-eq0.pass in
+    let met : Meets op L call k d c.if-control-eq0.control u m = elim c.if-control-eq0.branch [
+      | then-control-eq0+else-take w ↦
+          let seen = c.see-control.ensures.free w.if-control-eq0.true in let lost = w.take.ensures.lost w.if-take.false in
+          subst (λ (z : _ × ℕ). Meets op L call k d z.1 u (pass_view z.0)) (λ i. (sym w.pass-is i, sym w.control-is i))
+          (meets_again op L call k d w.see-control-then-control-eq0.result u v (pass_view w.take.new.pass) (pass_view w.see-control-then-control-eq0.new.pass) seen.0 lost.0 lost.1 w.see-control-then-control-eq0.ensures.some w.see-control-then-control-eq0.ensures.used)
+      | else-control-eq0 w ↦
+          subst (λ (z : _ × ℕ). Meets op L call k d z.1 u (pass_view z.0)) (λ i. (sym w.pass-is i, sym w.control-is i)) (c.see-control.ensures.used w.if-control-eq0.false)
+    ] in
+    (met.same_home (c.names_home.ensures.names.0 c.if-names_home.true ∙ c.requires.home)).1
+
 pub returns-then-has_key-clause-inserts : goal.returns-then-has_key-clause-inserts
 returns-then-has_key-clause-inserts g c = let op = g.L.MergeLaw.op in let L = lead_key c.args.lead.now in let k = c.args.key.now in let d = c.args.number in let call = Insert k c.args.value.now in
     let u = pass_view c.args.pass.now in let v = pass_view c.see-control.new.pass in let m = pass_view c.if-control-eq0.pass in
@@ -23,7 +36,7 @@ returns-then-has_key-clause-inserts g c = let op = g.L.MergeLaw.op in let L = le
       | then-control-eq0+else-take w ↦
           let seen = c.see-control.ensures.free w.if-control-eq0.true in let lost = w.take.ensures.lost w.if-take.false in
           subst (λ (z : _ × ℕ). Meets op L call k d z.1 u (pass_view z.0)) (λ i. (sym w.pass-is i, sym w.control-is i))
-          (meets_behind op L call k d w.see_again-control.result u (pass_view w.take.new.pass) (pass_view w.see_again-control.new.pass) (comes_trans op L u v (pass_view w.take.new.pass) seen.0 lost.0) w.see_again-control.ensures.used)
+          (meets_again op L call k d w.see-control-then-control-eq0.result u v (pass_view w.take.new.pass) (pass_view w.see-control-then-control-eq0.new.pass) seen.0 lost.0 lost.1 w.see-control-then-control-eq0.ensures.some w.see-control-then-control-eq0.ensures.used)
       | else-control-eq0 w ↦
           subst (λ (z : _ × ℕ). Meets op L call k d z.1 u (pass_view z.0)) (λ i. (sym w.pass-is i, sym w.control-is i)) (c.see-control.ensures.used w.if-control-eq0.false)
     ] in
@@ -38,7 +51,7 @@ returns-then-last-clause-inserts g c = let op = g.L.MergeLaw.op in let L = lead_
       | then-control-eq0+else-take w ↦
           let seen = c.see-control.ensures.free w.if-control-eq0.true in let lost = w.take.ensures.lost w.if-take.false in
           subst (λ (z : _ × ℕ). Meets op L call k d z.1 u (pass_view z.0)) (λ i. (sym w.pass-is i, sym w.control-is i))
-          (meets_behind op L call k d w.see_again-control.result u (pass_view w.take.new.pass) (pass_view w.see_again-control.new.pass) (comes_trans op L u v (pass_view w.take.new.pass) seen.0 lost.0) w.see_again-control.ensures.used)
+          (meets_again op L call k d w.see-control-then-control-eq0.result u v (pass_view w.take.new.pass) (pass_view w.see-control-then-control-eq0.new.pass) seen.0 lost.0 lost.1 w.see-control-then-control-eq0.ensures.some w.see-control-then-control-eq0.ensures.used)
       | else-control-eq0 w ↦
           subst (λ (z : _ × ℕ). Meets op L call k d z.1 u (pass_view z.0)) (λ i. (sym w.pass-is i, sym w.control-is i)) (c.see-control.ensures.used w.if-control-eq0.false)
     ] in
@@ -58,7 +71,7 @@ returns-else-last-clause-inserts g c = let op = g.L.MergeLaw.op in let L = lead_
       | then-control-eq0+else-take w ↦
           let seen = c.see-control.ensures.free w.if-control-eq0.true in let lost = w.take.ensures.lost w.if-take.false in
           subst (λ (z : _ × ℕ). Meets op L call k d z.1 u (pass_view z.0)) (λ i. (sym w.pass-is i, sym w.control-is i))
-          (meets_behind op L call k d w.see_again-control.result u (pass_view w.take.new.pass) (pass_view w.see_again-control.new.pass) (comes_trans op L u v (pass_view w.take.new.pass) seen.0 lost.0) w.see_again-control.ensures.used)
+          (meets_again op L call k d w.see-control-then-control-eq0.result u v (pass_view w.take.new.pass) (pass_view w.see-control-then-control-eq0.new.pass) seen.0 lost.0 lost.1 w.see-control-then-control-eq0.ensures.some w.see-control-then-control-eq0.ensures.used)
       | else-control-eq0 w ↦
           subst (λ (z : _ × ℕ). Meets op L call k d z.1 u (pass_view z.0)) (λ i. (sym w.pass-is i, sym w.control-is i)) (c.see-control.ensures.used w.if-control-eq0.false)
     ] in

@@ -1,9 +1,10 @@
-use Rattle.std.proofs.Common.{ℕ, inl, refl, sym, subst}
+use Rattle.std.proofs.Common.{◌≡◌, ℕ, suc, ◌+◌, inl, refl, sym, subst, arith}
 use Rattle.bcl_event.specs.declared.map.MapCall.TheVariants.{Insert}
 use Rattle.bcl_phase.specs.Rule.{Moves}
 use Rattle.bcl_phase.specs.Parts.{lead_key, lead_heads, lead_layout, lead_word, pass_view}
 use Rattle.bcl_map.specs.Map.{path, next, permits}
 use Rattle.bcl_map.specs.Fits.{Holds}
+use Rattle.bcl_map.specs.Notes.{Knows}
 use Rattle.bcl_map.specs.Inserts.{strays, SeesControl}
 use Rattle.bcl_map.proofs.Looks.{lawful, word_is}
 use Rattle.bcl_map.proofs.Sees.{see_step}
@@ -14,11 +15,14 @@ pub get-requires-clause-step : goal.get-requires-clause-step
 get-requires-clause-step g c = let lead = c.args.lead.now in let L = lead_key lead in let v = pass_view c.args.pass.now in let k = c.args.key.now in let d = c.args.number in let value = c.args.value.now in
     let kw = g.K.Object.WORDS in let vw = g.V.Object.WORDS in let op = g.L.MergeLaw.op in
     subst (λ (p : ℕ). Moves (next op) permits (Holds kw vw g.K.Object.passes g.V.Object.passes) L p v.rank v.note (lead_word lead c.word.result) (λ n. n) (SeesControl kw vw op L (Insert k value) (strays v.note.claims) k d v.note)) (sym c.args.pass.now.pass.1)
-    (see_step kw vw g.K.Object.passes g.V.Object.passes op L (lawful kw vw (lead_heads lead) (lead_layout lead) L c.requires.shape) v.rank (Insert k value) k value d c.requires.mine c.requires.mine (inl refl) (strays v.note.claims) _ v.note c.requires.heading
+    (see_step kw vw g.K.Object.passes g.V.Object.passes op L (lawful kw vw (lead_heads lead) (lead_layout lead) L c.requires.shape) v.rank (Insert k value) k value d c.requires.mine c.requires.mine (inl refl) (strays v.note.claims) c.requires.heading.0 _ v.note c.requires.heading.1 c.requires.heading.2
     (word_is kw vw (lead_heads lead) (lead_layout lead) L c.requires.shape c.args.at (path L k d) 0 c.word.result c.requires.at c.word.ensures.spot))
+
+pub returns-clause-some : goal.returns-clause-some
+returns-clause-some g c knows = let next_one : c.args.number + 1 ≡ suc c.args.number = omega arith in c.get.ensures.told.fact.some (subst (λ (n : ℕ). Knows c.args.key.now n (pass_view c.args.pass.now).note.claims) next_one knows)
 
 pub returns-clause-free : goal.returns-clause-free
 returns-clause-free g c = facing_by g.L.MergeLaw.op (lead_key c.args.lead.now) g.K.Object.WORDS g.V.Object.WORDS (Insert c.args.key.now c.args.value.now) c.args.key.now c.args.number (pass_view c.args.pass.now) (pass_view c.get.new.self) _ c.get.result c.get.ensures.took c.get.ensures.told
 
 pub returns-clause-used : goal.returns-clause-used
-returns-clause-used g c = meets_by g.L.MergeLaw.op (lead_key c.args.lead.now) g.K.Object.WORDS g.V.Object.WORDS (Insert c.args.key.now c.args.value.now) c.args.key.now c.args.number (pass_view c.args.pass.now) (pass_view c.get.new.self) c.get.result c.get.ensures.took c.requires.heading c.get.ensures.told
+returns-clause-used g c = meets_by g.L.MergeLaw.op (lead_key c.args.lead.now) g.K.Object.WORDS g.V.Object.WORDS (Insert c.args.key.now c.args.value.now) c.args.key.now c.args.number (pass_view c.args.pass.now) (pass_view c.get.new.self) c.get.result c.requires.heading.0 c.get.ensures.took c.requires.heading.2 c.get.ensures.told
