@@ -7,6 +7,9 @@ use Rattle.std.proofs.lemmas.Bool.{false≢true}
 use Rattle.std.proofs.lemmas.Bool.Decides.{Decides-eqb}
 use Rattle.std.proofs.lemmas.List.Elements.{All-nil, All-cons}
 use lib.Seq.{set-get_or}
+use Rattle.std.proofs.Common.{arith, rules}
+use Rattle.std.proofs.lemmas.Bool.Decides.{nat_tests}
+use Rattle.bcl_words.specs.Words.{Fits}
 use Rattle.bcl_words.specs.Hash.{hash_of}
 use Rattle.bcl_segment.specs.declared.layout.Layout.{Layout}
 use Rattle.bcl_segment.specs.declared.layout.Spot.{Spot}
@@ -21,9 +24,10 @@ use Rattle.bcl_phase.specs.Views.{Tick}
 use Rattle.bcl_phase.specs.Rule.{Moves}
 use Rattle.bcl_phase.specs.Told.{Took, Told}
 use Rattle.bcl_phase.proofs.Calls.{stands_one}
-use Rattle.bcl_bloom.specs.Bloom.{ranks, start, next, permits, fits, IsShaped}
-use Rattle.bcl_bloom.specs.Calls.{KeyView, bits_of, Answers, Stands}
-use Rattle.bcl_bloom.proofs.Bits.{has_bit-or, has_bit-none}
+use Rattle.bcl_phase.specs.Seats.{IsLaid}
+use Rattle.bcl_bloom.specs.Bloom.{ranks, start, next, permits, fits}
+use Rattle.bcl_bloom.specs.Calls.{FilterView, bits_of, Answers, Stands}
+use Rattle.bcl_event.proofs.Bits.{has_bit-or, has_bit-none}
 
 abbrev mark : ℕ → ℕ → Mark
 mark block bit = record { block = block; bit = bit }
@@ -47,26 +51,26 @@ all_marks p q block (x ∷ xs) f = ap₂ (λ u v. u && v) (f x) (all_marks p q b
 
 -- ---- where a block stands
 
-module _ (heads h h' : ℕ) (whole key layout : Layout) (spot : Spot) (shape : IsShaped heads whole key) (same : layout ≡ whole) (hash : h ≡ h') (word : word_at 0 layout spot ≡ h % places layout) where
+module _ (heads h h' : ℕ) (whole key layout : Layout) (spot : Spot) (fit : Bool) (laid : IsLaid fit 0 key heads whole) (same : layout ≡ whole) (hash : h ≡ h') (word : word_at 0 layout spot ≡ h % places layout) where
   pub block_is : word_at heads whole spot ≡ h' % places key
-  block_is = ap₂ (λ n l. word_at n l spot) shape.0 (sym same) ∙ word ∙ ap₂ (λ n l. n % places l) hash (same ∙ shape.1)
+  block_is = ap₂ (λ n l. word_at n l spot) laid.as_heads (sym same) ∙ word ∙ ap₂ (λ n l. n % places l) hash (same ∙ laid.as_layout)
 
   pub block_within : h % places layout < places layout → word_at heads whole spot < places key
-  block_within low = subst (λ (n : ℕ). n < places key) (sym block_is) (subst (λ (z : ℕ × Layout). z.0 % places z.1 < places z.1) (λ i. (hash i, (same ∙ shape.1) i)) low)
+  block_within low = subst (λ (n : ℕ). n < places key) (sym block_is) (subst (λ (z : ℕ × Layout). z.0 % places z.1 < places z.1) (λ i. (hash i, (same ∙ laid.as_layout) i)) low)
 
 -- ---- steps
 
-may : {K : Type 0} (layout : Layout) (promise rank : ℕ) (call : FilterCall K) → promise ≡ 9 → All (permits layout promise rank) (call ∷ [])
+may : (layout : Layout) (promise rank : ℕ) (call : FilterCall (List ℕ)) → promise ≡ 9 → All (permits layout promise rank) (call ∷ [])
 may layout promise rank call any = All-cons (permits layout promise rank) call [] (subst (λ (p : ℕ). Permits filter_permits p rank call) (sym any) tt) (All-nil (permits layout promise rank))
 
-module _ {K : Type 0} (width : ℕ) (words : K → List ℕ) (layout : Layout) (promise rank i : ℕ) (key : K) (any : promise ≡ 9) (at : i ≡ hash_of (take width (words key)) % places layout) where
+module _ (width : ℕ) (layout : Layout) (promise rank i : ℕ) (key : List ℕ) (any : promise ≡ 9) (at : i ≡ hash_of (take width key) % places layout) where
   -- what a block answers to the key
   answer : (ws : List ℕ) (t : List (List ℕ)) (xs : List (Unit {0})) → fits width layout promise ws t xs
-      → list_all (is_marked (places layout) width t) (marks_of (places layout) width (words key)) ≡ list_all (has_bit (slice_index ws i)) (bits_of width words key)
-  answer ws t xs fit = sym (all_marks (has_bit (slice_index ws i)) (is_marked (places layout) width t) (hash_of (take width (words key)) % places layout) (bits_of width words key)
-      (λ bit. ap (λ (j : ℕ). has_bit (slice_index ws j) bit) at ∙ fit.1 (mark (hash_of (take width (words key)) % places layout) bit)))
+      → list_all (is_marked (places layout) width t) (marks_of (places layout) width key) ≡ list_all (has_bit (slice_index ws i)) (bits_of width key)
+  answer ws t xs fit = sym (all_marks (has_bit (slice_index ws i)) (is_marked (places layout) width t) (hash_of (take width key) % places layout) (bits_of width key)
+      (λ bit. ap (λ (j : ℕ). has_bit (slice_index ws j) bit) at ∙ fit.1 (mark (hash_of (take width key) % places layout) bit)))
 
-  pub finds : Moves (next width words) permits (fits width) layout promise rank tt i (λ n. n) (λ n t did _. Answers width words layout (Find key) (bits_of width words key) n t did)
+  pub finds : Moves (next width) permits (fits width) layout promise rank tt i (λ n. n) (λ n t did _. Answers width layout (Find key) (bits_of width key) n t did)
   finds ws t xs there fit small = (
     Find key ∷ [],
     tt,
@@ -75,8 +79,8 @@ module _ {K : Type 0} (width : ℕ) (words : K → List ℕ) (layout : Layout) (
     (refl, ap presence (answer ws t xs fit)),
   )
 
-  pub inserts : (word : ℕ) → i < places layout → ((bit : ℕ) → has_bit word bit ≡ (list_any (λ other. bit == other) (bits_of width words key) || has_bit 0 bit))
-      → Moves (next width words) permits (fits width) layout promise rank tt i (λ n. bit_or n word) (λ n t did _. Answers width words layout (Insert key) (bits_of width words key) n t did)
+  pub inserts : (word : ℕ) → i < places layout → ((bit : ℕ) → has_bit word bit ≡ (list_any (λ other. bit == other) (bits_of width key) || has_bit 0 bit))
+      → Moves (next width) permits (fits width) layout promise rank tt i (λ n. bit_or n word) (λ n t did _. Answers width layout (Insert key) (bits_of width key) n t did)
   inserts word within has ws t xs there fit small = (
     Insert key ∷ [],
     tt,
@@ -86,29 +90,29 @@ module _ {K : Type 0} (width : ℕ) (words : K → List ℕ) (layout : Layout) (
   )
     where
       marks_too : (m : Mark) (seen : Bool) → (m.block == i) ≡ seen → has_bit (slice_index (slice_set ws i (bit_or (slice_index ws i) word)) m.block) m.bit
-          ≡ ((seen && list_any (λ bit. m.bit == bit) (bits_of width words key)) || is_marked (places layout) width t m)
+          ≡ ((seen && list_any (λ bit. m.bit == bit) (bits_of width key)) || is_marked (places layout) width t m)
       marks_too m true e =
           let here : m.block ≡ i = (Decides-eqb m.block i).0 e in
           let long : i < length ws = subst (λ (n : ℕ). i < n) (sym fit.0) within in
           ap (λ (j : ℕ). has_bit (slice_index (slice_set ws i (bit_or (slice_index ws i) word)) j) m.bit) here
           ∙ ap (λ (n : ℕ). has_bit n m.bit) (get_or-set_same ws i (bit_or (slice_index ws i) word) 0 long)
           ∙ has_bit-or (slice_index ws i) word m.bit
-          ∙ ap₂ (λ a b. a || b) (has m.bit ∙ ap (λ (b : Bool). list_any (λ other. m.bit == other) (bits_of width words key) || b) (has_bit-none m.bit) ∙ or-false (list_any (λ other. m.bit == other) (bits_of width words key)))
+          ∙ ap₂ (λ a b. a || b) (has m.bit ∙ ap (λ (b : Bool). list_any (λ other. m.bit == other) (bits_of width key) || b) (has_bit-none m.bit) ∙ or-false (list_any (λ other. m.bit == other) (bits_of width key)))
           (ap (λ (j : ℕ). has_bit (slice_index ws j) m.bit) (sym here) ∙ fit.1 m)
       marks_too m false e = ap (λ (n : ℕ). has_bit n m.bit) (get_or-set_other ws i m.block (bit_or (slice_index ws i) word) 0 (λ same. false≢true (sym e ∙ (Decides-eqb m.block i).1 same))) ∙ fit.1 m
 
-      marked : (m : Mark) → has_bit (slice_index (slice_set ws i (bit_or (slice_index ws i) word)) m.block) m.bit ≡ is_marked (places layout) width (words key ∷ t) m
+      marked : (m : Mark) → has_bit (slice_index (slice_set ws i (bit_or (slice_index ws i) word)) m.block) m.bit ≡ is_marked (places layout) width (key ∷ t) m
       marked m = marks_too m (m.block == i) refl ∙ ap (λ (b : Bool). b || is_marked (places layout) width t m)
-          (ap (λ (j : ℕ). (m.block == j) && list_any (λ bit. m.bit == bit) (bits_of width words key)) at
-          ∙ sym (marks_here m (hash_of (take width (words key)) % places layout) (hash_of (take width (words key)))))
+          (ap (λ (j : ℕ). (m.block == j) && list_any (λ bit. m.bit == bit) (bits_of width key)) at
+          ∙ sym (marks_here m (hash_of (take width key) % places layout) (hash_of (take width key))))
 
 -- ---- what a step tells
 
-module _ {K : Type 0} (width : ℕ) (words : K → List ℕ) (layout : Layout) where
-  pub answers_stand : (tick : Tick) (u v : KeyView K) (call : FilterCall K) (key : K) (n h : ℕ) (bits : List ℕ) (b : Bool)
-      → Took ranks start (next width words) permits layout tick u v → Told start (next width words) layout u (λ n t did _. Answers width words layout call (bits_of width words key) n t did) n v
-      → h ≡ hash_of (take width (words key)) → bits ≡ four_bits h → b ≡ list_all (has_bit n) bits
-      → Stands width words layout u v (event u.rank call (presence b) ∷ [])
+module _ (width : ℕ) (layout : Layout) where
+  pub answers_stand : (tick : Tick) (u v : FilterView) (call : FilterCall (List ℕ)) (key : List ℕ) (n h : ℕ) (bits : List ℕ) (b : Bool)
+      → Took ranks start (next width) permits layout tick u v → Told start (next width) layout u (λ n t did _. Answers width layout call (bits_of width key) n t did) n v
+      → h ≡ hash_of (take width key) → bits ≡ four_bits h → b ≡ list_all (has_bit n) bits
+      → Stands width layout u v (event u.rank call (presence b) ∷ [])
   answers_stand tick u v call key n h bits b took told hash four all =
-      stands_one ranks start (next width words) permits layout tick u v (λ n t did _. Answers width words layout call (bits_of width words key) n t did) n call (presence b) took told told.fact.0
+      stands_one ranks start (next width) permits layout tick u v (λ n t did _. Answers width layout call (bits_of width key) n t did) n call (presence b) took told told.fact.0
       (told.fact.1 ∙ sym (ap presence (all ∙ ap (list_all (has_bit n)) (four ∙ ap four_bits hash))))

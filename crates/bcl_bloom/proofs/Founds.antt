@@ -12,7 +12,7 @@ use Rattle.bcl_event.specs.declared.filter.FilterReply.{FilterReply}
 use Rattle.bcl_event.specs.declared.filter.FilterReply.TheVariants.{Present, NotPresent}
 use Rattle.bcl_event.specs.Filter.{is_present, presence}
 use Rattle.bcl_bloom.specs.Bloom.{start, next}
-use Rattle.bcl_bloom.specs.Calls.{KeyView, WasInserted, Stands}
+use Rattle.bcl_bloom.specs.Calls.{FilterView, WasInserted, Stands}
 
 abbrev is_there : FilterReply → Type 0
 is_there Present = Unit {0}
@@ -23,33 +23,33 @@ present_only true e = refl
 present_only false e = absurd (subst is_there (sym e) tt)
 
 -- the laws of the object, as they are proved beside it
-module _ {K : Type 0} (width : ℕ) (words : K → List ℕ) (layout : Layout) (key : K)
-    (inserted : (keys : List (List ℕ)) → is_present (places layout) width (words key ∷ keys) (words key) ≡ true)
-    (stays : (keys : List (List ℕ)) (other : List ℕ) → is_present (places layout) width keys (words key) ≡ true → is_present (places layout) width (other ∷ keys) (words key) ≡ true) where
+module _ (width : ℕ) (layout : Layout) (key : List ℕ)
+    (inserted : (keys : List (List ℕ)) → is_present (places layout) width (key ∷ keys) key ≡ true)
+    (stays : (keys : List (List ℕ)) (other : List ℕ) → is_present (places layout) width keys key ≡ true → is_present (places layout) width (other ∷ keys) key ≡ true) where
   abbrev IsThere : List (List ℕ) → Type 0
-  IsThere keys = is_present (places layout) width keys (words key) ≡ true
+  IsThere keys = is_present (places layout) width keys key ≡ true
 
-  call_keeps : (keys : List (List ℕ)) (c : FilterCall K) → IsThere keys → IsThere (next width words layout keys c).1
-  call_keeps keys (Insert other) there = stays keys (words other) there
+  call_keeps : (keys : List (List ℕ)) (c : FilterCall (List ℕ)) → IsThere keys → IsThere (next width layout keys c).1
+  call_keeps keys (Insert other) there = stays keys other there
   call_keeps keys (Find other) there = there
 
-  history_keeps : (keys : List (List ℕ)) (h : List (Event (FilterCall K) FilterReply)) → IsThere keys → IsThere (state_after (next width words layout) keys h)
+  history_keeps : (keys : List (List ℕ)) (h : List (Event (FilterCall (List ℕ)) FilterReply)) → IsThere keys → IsThere (state_after (next width layout) keys h)
   history_keeps keys [] there = there
-  history_keeps keys (e ∷ h) there = history_keeps (next width words layout keys e.call).1 h (call_keeps keys e.call there)
+  history_keeps keys (e ∷ h) there = history_keeps (next width layout keys e.call).1 h (call_keeps keys e.call there)
 
-  insert_makes : (keys : List (List ℕ)) (before after : List (Event (FilterCall K) FilterReply)) (e : Event (FilterCall K) FilterReply) → e.call ≡ Insert key → IsThere (state_after (next width words layout) keys (before ++ e ∷ after))
-  insert_makes keys [] after e is = history_keeps (next width words layout keys e.call).1 after (subst (λ (c : FilterCall K). IsThere (next width words layout keys c).1) (sym is) (inserted keys))
-  insert_makes keys (x ∷ before) after e is = insert_makes (next width words layout keys x.call).1 before after e is
+  insert_makes : (keys : List (List ℕ)) (before after : List (Event (FilterCall (List ℕ)) FilterReply)) (e : Event (FilterCall (List ℕ)) FilterReply) → e.call ≡ Insert key → IsThere (state_after (next width layout) keys (before ++ e ∷ after))
+  insert_makes keys [] after e is = history_keeps (next width layout keys e.call).1 after (subst (λ (c : FilterCall (List ℕ)). IsThere (next width layout keys c).1) (sym is) (inserted keys))
+  insert_makes keys (x ∷ before) after e is = insert_makes (next width layout keys x.call).1 before after e is
 
-  last_reply : (keys : List (List ℕ)) (h : List (Event (FilterCall K) FilterReply)) (e : Event (FilterCall K) FilterReply) → IsLegal (next width words layout) keys (h ++ e ∷ []) → e.reply ≡ (next width words layout (state_after (next width words layout) keys h) e.call).0
+  last_reply : (keys : List (List ℕ)) (h : List (Event (FilterCall (List ℕ)) FilterReply)) (e : Event (FilterCall (List ℕ)) FilterReply) → IsLegal (next width layout) keys (h ++ e ∷ []) → e.reply ≡ (next width layout (state_after (next width layout) keys h) e.call).0
   last_reply keys [] e legal = legal.0
-  last_reply keys (x ∷ h) e legal = last_reply (next width words layout keys x.call).1 h e legal.1
+  last_reply keys (x ∷ h) e legal = last_reply (next width layout keys x.call).1 h e legal.1
 
-  pub is_found : (u v : KeyView K) (rank : ℕ) (c : FilterCall K) (b : Bool) → ((keys : List (List ℕ)) → (next width words layout keys c).0 ≡ presence (is_present (places layout) width keys (words key)))
-      → Stands width words layout u v (event rank c (presence b) ∷ []) → WasInserted key u.seen → b ≡ true
+  pub is_found : (u v : FilterView) (rank : ℕ) (c : FilterCall (List ℕ)) (b : Bool) → ((keys : List (List ℕ)) → (next width layout keys c).0 ≡ presence (is_present (places layout) width keys key))
+      → Stands width layout u v (event rank c (presence b) ∷ []) → WasInserted key u.seen → b ≡ true
   is_found u v rank c b replies stands was =
-      let all : List (Event (FilterCall K) FilterReply) = was.after ++ stands.behind.0 in
-      let before : stands.before ≡ was.before ++ was.insert ∷ all = sym stands.behind.1 ∙ ap (λ (l : List (Event (FilterCall K) FilterReply)). l ++ stands.behind.0) was.cut ∙ append_assoc was.before (was.insert ∷ was.after) stands.behind.0 in
-      let legal = subst (IsLegal (next width words layout) (start layout)) stands.last stands.legal in
-      let there : IsThere (state_after (next width words layout) (start layout) stands.before) = subst (λ (l : List (Event (FilterCall K) FilterReply)). IsThere (state_after (next width words layout) (start layout) l)) (sym before) (insert_makes (start layout) was.before all was.insert was.call) in
-      present_only b (last_reply (start layout) stands.before (event rank c (presence b)) legal ∙ replies (state_after (next width words layout) (start layout) stands.before) ∙ ap presence there)
+      let all : List (Event (FilterCall (List ℕ)) FilterReply) = was.after ++ stands.behind.0 in
+      let before : stands.before ≡ was.before ++ was.insert ∷ all = sym stands.behind.1 ∙ ap (λ (l : List (Event (FilterCall (List ℕ)) FilterReply)). l ++ stands.behind.0) was.cut ∙ append_assoc was.before (was.insert ∷ was.after) stands.behind.0 in
+      let legal = subst (IsLegal (next width layout) (start layout)) stands.last stands.legal in
+      let there : IsThere (state_after (next width layout) (start layout) stands.before) = subst (λ (l : List (Event (FilterCall (List ℕ)) FilterReply)). IsThere (state_after (next width layout) (start layout) l)) (sym before) (insert_makes (start layout) was.before all was.insert was.call) in
+      present_only b (last_reply (start layout) stands.before (event rank c (presence b)) legal ∙ replies (state_after (next width layout) (start layout) stands.before) ∙ ap presence there)

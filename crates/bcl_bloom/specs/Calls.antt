@@ -13,28 +13,27 @@ use Rattle.bcl_phase.specs.declared.view.View.{View}
 use Rattle.bcl_phase.specs.Stands as phase
 use Rattle.bcl_bloom.specs.Bloom.{ranks, start, next, permits}
 
--- what a pass knows of a filter of keys
-abbrev pub KeyView : Type 0 → Type 0
-KeyView K = View (FilterCall K) FilterReply (Unit {0}) Layout
+-- what a pass knows of a filter
+abbrev pub FilterView : Type 0
+FilterView = View (FilterCall (List ℕ)) FilterReply (Unit {0}) Layout
 
-module _ {K : Type 0} where
-  -- some rank has inserted the key
-  pub record WasInserted (key : K) (seen : List (Event (FilterCall K) FilterReply)) : Type 0 where
-    pub before : List (Event (FilterCall K) FilterReply)
-    pub insert : Event (FilterCall K) FilterReply
-    pub after : List (Event (FilterCall K) FilterReply)
-    pub cut : seen ≡ before ++ insert ∷ after
-    pub call : insert.call ≡ Insert key
+-- some rank has inserted the key with these words
+pub record WasInserted (key : List ℕ) (seen : List (Event (FilterCall (List ℕ)) FilterReply)) : Type 0 where
+  pub before : List (Event (FilterCall (List ℕ)) FilterReply)
+  pub insert : Event (FilterCall (List ℕ)) FilterReply
+  pub after : List (Event (FilterCall (List ℕ)) FilterReply)
+  pub cut : seen ≡ before ++ insert ∷ after
+  pub call : insert.call ≡ Insert key
 
-module _ {K : Type 0} (width : ℕ) (words : K → List ℕ) where
+module _ (width : ℕ) where
   -- the bits that a key marks in its block
-  abbrev pub bits_of : K → List ℕ
-  bits_of key = four_bits (hash_of (take width (words key)))
+  abbrev pub bits_of : List ℕ → List ℕ
+  bits_of key = four_bits (hash_of (take width key))
 
   -- the calls with these events stand in the history of a filter
-  abbrev pub Stands : Layout → KeyView K → KeyView K → List (Event (FilterCall K) FilterReply) → Type 0
-  Stands layout old new es = phase.Stands ranks start (next width words) permits layout old new es
+  abbrev pub Stands : Layout → FilterView → FilterView → List (Event (FilterCall (List ℕ)) FilterReply) → Type 0
+  Stands layout old new es = phase.Stands ranks start (next width) permits layout old new es
 
   -- a step that makes this call, and is answered by these bits of the number that it found
-  abbrev pub Answers : Layout → FilterCall K → List ℕ → ℕ → List (List ℕ) → List (FilterCall K) → Type 0
-  Answers layout call bits n keys did = (did ≡ call ∷ []) × ((next width words layout keys call).0 ≡ presence (list_all (has_bit n) bits))
+  abbrev pub Answers : Layout → FilterCall (List ℕ) → List ℕ → ℕ → List (List ℕ) → List (FilterCall (List ℕ)) → Type 0
+  Answers layout call bits n keys did = (did ≡ call ∷ []) × ((next width layout keys call).0 ≡ presence (list_all (has_bit n) bits))

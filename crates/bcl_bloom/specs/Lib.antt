@@ -1,3 +1,2 @@
 pub mod Bloom
 pub mod Calls
-pub mod Parts

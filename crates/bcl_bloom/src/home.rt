@@ -1,12 +1,9 @@
 //! Who has a filter alone.
 
-ghost use Rattle.bcl_phase.specs.Parts.{home_key, home_layout, home_heads};
-ghost use Rattle.bcl_bloom.specs.Bloom.{IsShaped};
-
-use crate::filter::{Filter, FilterGrants};
+use crate::filter::Filter;
 use crate::lead::FilterLead;
 use crate::pass::FilterPass;
-use bcl_phase::{Home, Phased, Promise, Refused};
+use bcl_phase::{Grants, Home, Phased, Promise, Refused};
 use bcl_segment::Layout;
 use bcl_words::{NoMemory, Object};
 use std::alloc::Global;
@@ -15,20 +12,16 @@ use std::alloc::Global;
 #[derive(Drop)]
 pub struct FilterHome<K>
 where
-    Filter<K>: Phased<Key = Layout>,
+    Filter<K>: Phased,
 {
-    pub(crate) home: Home<Filter<K>>,
-    ghost shape: { IsShaped (home_heads home) (home_layout home) (home_key home) },
+    pub home: Home<Filter<K>>,
 }
 
 impl<K: Object> FilterHome<K> {
-    ghost use Rattle.std.specs.Prelude.{◌≡◌, ◌*◌, ◌≤◌, ◌^◌, ℕ, length, IfOk, IfErr};
-    ghost use mathlib.Core.Option.{some};
-    ghost use lib.ListN.{get_elem?};
+    ghost use Rattle.std.specs.Prelude.{◌≡◌, ◌*◌, ◌≤◌, ◌^◌, IfOk};
     ghost use Rattle.bcl_words.specs.Words.{Fits};
     ghost use Rattle.bcl_phase.specs.Views.{opened};
-    ghost use Rattle.bcl_phase.specs.Phases.{begun};
-    ghost use Rattle.bcl_bloom.specs.Parts as filter;
+    ghost use Rattle.bcl_phase.specs.Parts.{home_view, home_key};
 
     /// A filter that holds nothing, of `ranks * per_rank` blocks of one word, each with 64 marks. It makes no step.
     ///
@@ -37,15 +30,22 @@ impl<K: Object> FilterHome<K> {
         requires fits { Fits K.WORDS }
         requires ranks { (1 ≤ ranks) × (ranks ≤ 64) }
         requires blocks { (1 ≤ ranks * per_rank) × (ranks * per_rank ≤ 2 ^ 27) }
-        ensures empty { IfOk result (λ h. filter.home_view h ≡ opened (record { ranks = ranks; per_rank = per_rank }) ranks tt) }
-        ensures key { IfOk result (λ h. filter.home_key h ≡ record { ranks = ranks; per_rank = per_rank }) }
-        ensures layout { IfOk result (λ h. filter.home_layout h ≡ record { ranks = ranks; per_rank = per_rank }) }
+        ensures empty { IfOk result (λ h. home_view h.home ≡ opened (record { ranks = ranks; per_rank = per_rank }) ranks tt) }
+        ensures key { IfOk result (λ h. home_key h.home ≡ record { ranks = ranks; per_rank = per_rank }) }
     {
         let layout = Layout { ranks, per_rank };
         let blocks = vec![in alloc; 0u64; (ranks * per_rank) as usize]?;
         let home = Home::new(alloc, layout, 0, blocks, &layout)?;
         Ok(FilterHome { home })
     }
+}
+
+impl<K> FilterHome<K>
+where
+    Filter<K>: Phased,
+{
+    ghost use Rattle.std.specs.Prelude.{◌≡◌, IfOk, IfErr};
+    ghost use Rattle.bcl_phase.specs.Deals.{Begins};
 
     /// Begins a phase: as many passes as there are ranks, rank i at place i, and the lead that ends it.
     ///
@@ -56,12 +56,9 @@ impl<K: Object> FilterHome<K> {
         alloc: Global,
     ) -> Result<(FilterLead<K>, Vec<FilterPass<P, K>>), Refused<FilterHome<K>>>
     where
-        Filter<K>: FilterGrants<P, K>,
-        ensures count { IfOk result (λ r. length r.1.items ≡ (filter.home_layout self).ranks) }
-        ensures begun { IfOk result (λ r. (i : ℕ) (p : _) → get_elem? r.1.items i ≡ some p → filter.pass_view p ≡ begun tt P.CODE (filter.home_key self) (filter.home_view self).seen i) }
-        ensures of { IfOk result (λ r. (i : ℕ) (p : _) → get_elem? r.1.items i ≡ some p → filter.IsOf p r.0) }
-        ensures lead { IfOk result (λ r. filter.IsLeadOf r.0 self × ((filter.lead_view r.0).start ≡ (filter.home_view self).seen) × ((filter.lead_view r.0).promise ≡ P.CODE)) }
-        ensures refused { IfErr result (λ e. filter.IsUnchanged self e.home) }
+        Filter<K>: Grants<P>,
+        ensures begins { IfOk result (λ r. Begins (λ p. p.pass) P.CODE self.home r.0.lead r.1.items) }
+        ensures refused { IfErr result (λ e. e.home ≡ self) }
     {
         match self.home.begin::<P, FilterPass<P, K>>(alloc) {
             Ok((lead, passes)) => Ok((FilterLead { lead }, passes)),

@@ -8,18 +8,18 @@
 //! - `home`: who has a filter alone; how it is made, and how a phase begins.
 //! - `lead`: who has begun a phase; how it ends, and turns into the next.
 //! - `pass`: one rank's part, and its calls.
-//! - `marks`: the four bits of a hash, and the block where they stand.
+//! - `block`: where the block of a hash stands.
 #![tactic(auto)]
 
+mod block;
 mod filter;
 mod home;
 mod lead;
-mod marks;
 mod pass;
 #[cfg(test)]
 mod tests;
 
-pub use filter::{Filter, FilterGrants};
+pub use filter::Filter;
 pub use home::FilterHome;
 pub use lead::FilterLead;
 pub use pass::FilterPass;

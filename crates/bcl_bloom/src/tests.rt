@@ -2,27 +2,34 @@ ghost use Rattle.std.specs.Prelude.{◌≡◌, ◌+◌, ℕ, length, true, IfOk,
 ghost use mathlib.Core.Option.{some};
 ghost use lib.ListN.{get_elem?};
 ghost use Rattle.std.specs.List.{All};
-ghost use Rattle.bcl_bloom.specs.Parts.{pass_view, IsOf};
+ghost use Rattle.bcl_phase.specs.Deals.{view, IsIn, AreOf};
 
-use crate::marks::{bits_of, key_hash};
 use crate::{FilterHome, FilterLead, FilterPass};
+use bcl_event::bits_of;
 use bcl_phase::{Always, Any, Kit, superstep};
+use bcl_words::{Object, key_hash};
 use std::alloc::{AllocError, Global};
 use std::test::Fail;
 
 #[test]
 fn keys_mark_these_bits(rt: HostRuntime) {
-    assert_eq!(rt; bits_of(key_hash(&0u64)), [0, 0, 0, 0]);
-    assert_eq!(rt; bits_of(key_hash(&1u64)), [11, 62, 37, 15]);
-    assert_eq!(rt; bits_of(key_hash(&3u64)), [35, 59, 47, 46]);
+    assert_eq!(rt; bits_of(key_hash::<u64>(&0u64.to_words())), [0, 0, 0, 0]);
+    assert_eq!(rt;
+        bits_of(key_hash::<u64>(&1u64.to_words())),
+        [11, 62, 37, 15]
+    );
+    assert_eq!(rt;
+        bits_of(key_hash::<u64>(&3u64.to_words())),
+        [35, 59, 47, 46]
+    );
 }
 
 // What an inserted key is answered, whatever was answered to its insertion.
 fn insert_then_find(pass: &mut FilterPass<Any, u64>, lead: &FilterLead<u64>, key: u64) -> bool
-    requires of { IsOf pass.old lead.now }
+    requires of { IsIn pass.old.pass lead.now.lead }
     ensures found { result ≡ true }
-    ensures of { IsOf pass.new lead.now }
-    ensures rank { (pass_view pass.new).rank ≡ (pass_view pass.old).rank }
+    ensures of { IsIn pass.new.pass lead.now.lead }
+    ensures rank { (view pass.new.pass).rank ≡ (view pass.old.pass).rank }
 {
     pass.insert(lead, &key);
     pass.find(lead, &key)
@@ -40,11 +47,9 @@ struct Asker<'a> {
 }
 
 impl<'a> Kit for Asker<'a> {
-    ghost use Rattle.bcl_bloom.specs.Parts.{IsOf};
+    ghost ready = { λ k. IsIn k.pass.pass k.lead.now.lead };
 
-    ghost ready = { λ k. IsOf k.pass k.lead.now };
-
-    ghost step = { λ k l. (l.lead ≡ k.lead) × IsOf l.pass l.lead.now × ((pass_view l.pass).rank ≡ (pass_view k.pass).rank) × (l.own_found ≡ true) };
+    ghost step = { λ k l. (l.lead ≡ k.lead) × IsIn l.pass.pass l.lead.now.lead × ((view l.pass.pass).rank ≡ (view k.pass.pass).rank) × (l.own_found ≡ true) };
 
     fn rank(&self) -> u32 {
         self.pass.rank()
@@ -61,9 +66,9 @@ fn last_pass(
     lead: &FilterLead<u64>,
     passes: &mut Vec<FilterPass<Any, u64>>,
 ) -> Option<FilterPass<Any, u64>>
-    requires of { (i : ℕ) (p : _) → get_elem? passes.old.items i ≡ some p → IsOf p lead.now × ((pass_view p).rank ≡ i) }
-    ensures of { (i : ℕ) (p : _) → get_elem? passes.new.items i ≡ some p → IsOf p lead.now × ((pass_view p).rank ≡ i) }
-    ensures last { IfSome result (λ p. IsOf p lead.now × ((pass_view p).rank ≡ length passes.new.items)) }
+    requires of { AreOf (λ p. p.pass) lead.now.lead passes.old.items }
+    ensures of { AreOf (λ p. p.pass) lead.now.lead passes.new.items }
+    ensures last { IfSome result (λ p. IsIn p.pass lead.now.lead × ((view p.pass).rank ≡ length passes.new.items)) }
     ensures fewer { IfSome result (λ p. length passes.old.items ≡ length passes.new.items + 1) }
     ensures none { IsNone result → length passes.new.items ≡ length passes.old.items }
 {
@@ -80,8 +85,8 @@ fn askers<'a>(
     mut passes: Vec<FilterPass<Any, u64>>,
     first: u64,
 ) -> Result<Vec<Asker<'a>>, AllocError>
-    requires of { (i : ℕ) (p : _) → get_elem? passes.items i ≡ some p → IsOf p lead.now × ((pass_view p).rank ≡ i) }
-    ensures ready { IfOk result (λ kits. All (λ k. IsOf k.pass k.lead.now) kits.items) }
+    requires of { AreOf (λ p. p.pass) lead.now.lead passes.items }
+    ensures ready { IfOk result (λ kits. All (λ k. IsIn k.pass.pass k.lead.now.lead) kits.items) }
 {
     let mut kits = Vec::new(alloc);
     while let Some(pass) = last_pass(lead, &mut passes) {
@@ -127,8 +132,8 @@ fn each_inserts(
     passes: &mut Vec<FilterPass<Any, u64>>,
     first: u64,
 ) -> Result<(), AllocError>
-    requires of { (i : ℕ) (p : _) → get_elem? passes.old.items i ≡ some p → IsOf p lead.now × ((pass_view p).rank ≡ i) }
-    ensures of { IfOk result (λ _. (i : ℕ) (p : _) → get_elem? passes.new.items i ≡ some p → IsOf p lead.now × ((pass_view p).rank ≡ i)) }
+    requires of { AreOf (λ p. p.pass) lead.now.lead passes.old.items }
+    ensures of { IfOk result (λ _. AreOf (λ p. p.pass) lead.now.lead passes.new.items) }
     ensures all { IfOk result (λ _. length passes.new.items ≡ length passes.old.items) }
 {
     let Some(mut pass) = last_pass(lead, passes) else {
@@ -147,8 +152,8 @@ fn finders(
     passes: &mut Vec<FilterPass<Any, u64>>,
     key: u64,
 ) -> Result<u32, AllocError>
-    requires of { (i : ℕ) (p : _) → get_elem? passes.old.items i ≡ some p → IsOf p lead.now × ((pass_view p).rank ≡ i) }
-    ensures of { IfOk result (λ _. (i : ℕ) (p : _) → get_elem? passes.new.items i ≡ some p → IsOf p lead.now × ((pass_view p).rank ≡ i)) }
+    requires of { AreOf (λ p. p.pass) lead.now.lead passes.old.items }
+    ensures of { IfOk result (λ _. AreOf (λ p. p.pass) lead.now.lead passes.new.items) }
     ensures all { IfOk result (λ _. length passes.new.items ≡ length passes.old.items) }
 {
     let Some(mut pass) = last_pass(lead, passes) else {
@@ -181,9 +186,9 @@ fn all_ranks_find_after_a_turn_what_each_inserted(rt: HostRuntime) -> Result<(),
 
 // The calls of one rank on a filter of one block, and what they answer.
 fn calls(pass: &mut FilterPass<Any, u64>, lead: &FilterLead<u64>) -> [bool; 5]
-    requires of { IsOf pass.old lead.now }
-    ensures of { IsOf pass.new lead.now }
-    ensures rank { (pass_view pass.new).rank ≡ (pass_view pass.old).rank }
+    requires of { IsIn pass.old.pass lead.now.lead }
+    ensures of { IsIn pass.new.pass lead.now.lead }
+    ensures rank { (view pass.new.pass).rank ≡ (view pass.old.pass).rank }
 {
     let first = pass.insert(lead, &1);
     let other = pass.find(lead, &3);
@@ -198,8 +203,8 @@ fn last_calls(
     lead: &FilterLead<u64>,
     passes: &mut Vec<FilterPass<Any, u64>>,
 ) -> Result<[bool; 5], Fail>
-    requires of { (i : ℕ) (p : _) → get_elem? passes.old.items i ≡ some p → IsOf p lead.now × ((pass_view p).rank ≡ i) }
-    ensures of { IfOk result (λ _. (i : ℕ) (p : _) → get_elem? passes.new.items i ≡ some p → IsOf p lead.now × ((pass_view p).rank ≡ i)) }
+    requires of { AreOf (λ p. p.pass) lead.now.lead passes.old.items }
+    ensures of { IfOk result (λ _. AreOf (λ p. p.pass) lead.now.lead passes.new.items) }
     ensures all { IfOk result (λ _. length passes.new.items ≡ length passes.old.items) }
 {
     let Some(mut pass) = last_pass(lead, passes) else {

@@ -14,4 +14,4 @@ mod path;
 mod tests;
 
 pub use control::{Control, State};
-pub use path::{Path, home_rank, start};
+pub use path::{Path, home_rank, start, start_of_words};

@@ -8,7 +8,7 @@ ghost use Rattle.bcl_segment.specs.Places.{places};
 ghost use Rattle.bcl_bucket.specs.Paths.{start_of, path};
 
 use bcl_segment::Layout;
-use bcl_words::{Object, hash};
+use bcl_words::{Object, key_hash};
 use std::marker::Model;
 
 /// The place where the path of a key begins, among so many: the hash of its words modulo their number.
@@ -18,7 +18,18 @@ pub fn start<K: Object>(key: &K, places: u32) -> u32
     ensures start { result ≡ start_of K.WORDS (K.words key.now) places }
     ensures below { result < places }
 {
-    (hash(&key.to_words()[..K::WORDS]) % u64::from(places)) as u32
+    start_of_words::<K>(&key.to_words(), places)
+}
+
+/// The same, of the key whose eight words these are.
+#[inline(always)]
+pub fn start_of_words<K: Object>(words: &[u64; 8], places: u32) -> u32
+    requires fits { Fits K.WORDS }
+    requires some { 1 ≤ places }
+    ensures start { result ≡ start_of K.WORDS words.now places }
+    ensures below { result < places }
+{
+    (key_hash::<K>(words) % u64::from(places)) as u32
 }
 
 /// The home of a key: the rank in whose segment its path begins, among the places of all segments.

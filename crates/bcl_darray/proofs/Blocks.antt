@@ -2,9 +2,8 @@
 use Rattle.std.proofs.Common.{◌≡◌, ℕ, ◌+◌, ◌*◌, ◌-◌, ◌/◌, ◌^◌, ◌<◌, ◌≤◌, sym, ap, ◌∙◌, subst, ⊎_elim, arith, Some}
 use Rattle.std.proofs.lemmas.Bool.{cases_lt}
 use Rattle.std.proofs.Math.Nat.{mul_assoc, add-mul, mul-le-mul_left, mul-le-mul_right, le-mul_of_pos_right, le_of_mul-le-mul_right, mul-div_cancel, div-mul-le_self, lt-mul-div-succ, div-eq_of_lt-le}
-use Rattle.bcl_segment.specs.declared.layout.GlobalPtr.{GlobalPtr}
 use Rattle.bcl_segment.specs.declared.layout.Layout.{Layout}
-use Rattle.bcl_segment.specs.Places.{places, place_of, Points}
+use Rattle.bcl_segment.specs.Places.{places}
 use Rattle.bcl_darray.specs.declared.array.Shape.{Shape}
 use Rattle.bcl_darray.specs.Array.{size, IsShaped}
 use Rattle.bcl_darray.specs.Calls.{ItemView, IsMine, IsSeated, IsItemAt}
@@ -18,24 +17,6 @@ module _ (width heads : ℕ) (layout : Layout) (shape : Shape) (shaped : IsShape
   -- the words before the block of a rank
   before : (rank : ℕ) → rank * layout.per_rank ≡ rank * shape.per_rank * width
   before rank = ap (λ (n : ℕ). rank * n) shaped.of_items ∙ sym (mul_assoc rank shape.per_rank width)
-
-  pub item_stands : (at : GlobalPtr) (index : ℕ) → at.rank < layout.ranks → at.offset < layout.per_rank → place_of layout at ≡ index * width → IsItemAt width layout at index
-  item_stands at index of_rank below first = record { of_rank = of_rank; room = room; first = first }
-    where
-      room : at.offset + width ≤ layout.per_rank
-      room =
-          let q : ℕ = at.rank * shape.per_rank in let r : ℕ = at.rank * layout.per_rank in
-          let base : r ≡ q * width = before at.rank in
-          let sum : r + at.offset ≡ index * width = first in
-          let under : q ≤ index = le_of_mul-le-mul_right (omega arith) some in
-          let m : ℕ = index - q in
-          let cut : index ≡ q + m = omega arith in
-          let parts : index * width ≡ q * width + m * width = ap (λ (n : ℕ). n * width) cut ∙ add-mul q m width in
-          let whole : layout.per_rank ≡ shape.per_rank * width = shaped.of_items in
-          let less : m < shape.per_rank = ⊎_elim (λ (l : m < shape.per_rank). l) (λ (l : shape.per_rank ≤ m). let over : shape.per_rank * width ≤ m * width = mul-le-mul_right width l in absurd (omega arith)) (cases_lt m shape.per_rank) in
-          let upto : (m + 1) * width ≤ shape.per_rank * width = mul-le-mul_right width (omega arith) in
-          let one : (m + 1) * width ≡ m * width + width = omega arith in
-          omega arith
 
   -- what it is to lie in the block of a rank
   pub in_block : (index rank : ℕ) → index / shape.per_rank ≡ rank → (rank * shape.per_rank ≤ index) × (index < rank * shape.per_rank + shape.per_rank)
@@ -76,8 +57,15 @@ module _ (width heads : ℕ) (layout : Layout) (shape : Shape) (shaped : IsShape
       let all : layout.ranks * layout.per_rank ≡ shape.ranks * shape.per_rank * width = ap (λ (n : ℕ). n * layout.per_rank) shaped.of_ranks ∙ before shape.ranks in
       omega arith
 
-  pub read_stands : (layout' : Layout) (at : GlobalPtr) (index : ℕ) → layout' ≡ layout → Points layout' at → place_of layout' at ≡ index * width → IsItemAt width layout at index
-  read_stands layout' at index same points first = let there = subst (λ (l : Layout). Points l at × (place_of l at ≡ index * width)) same (points, first) in item_stands at index there.0.0 there.0.1 there.1
+  pub item_stands : (at index : ℕ) → index < size shape → at ≡ index * width → IsItemAt width layout at index
+  item_stands at index within first = record {
+    first = first;
+    room =
+        let next : (index + 1) * width ≤ shape.ranks * shape.per_rank * width = mul-le-mul_right width (omega arith) in
+        let one : (index + 1) * width ≡ index * width + width = omega arith in
+        let all : layout.ranks * layout.per_rank ≡ shape.ranks * shape.per_rank * width = ap (λ (n : ℕ). n * layout.per_rank) shaped.of_ranks ∙ before shape.ranks in
+        omega arith;
+  }
 
 -- ---- of a pass, whose layout and width come in other words
 
@@ -95,12 +83,8 @@ module _ (width width' : ℕ) (layout layout' : Layout) (view : ItemView) (index
     pub mine_words : (rank * layout'.per_rank ≤ index * width') × (index * width' < 2 ^ 32) × (rank * layout'.per_rank < 2 ^ 32)
     mine_words = let f = facts in let few = shaped.few in (f.0, omega arith, omega arith)
 
-    pub mine_stands : IsItemAt width layout (record { rank = rank; offset = index * width' - rank * layout'.per_rank }) index
-    mine_stands = subst (λ (z : ℕ × Layout). IsItemAt z.0 z.1 at index) (λ i. (wide i, laid i))
-        (item_stands width' 0 layout' mine.shape shaped (omega arith) at index (subst (λ (l : Layout). rank < l.ranks) (sym laid) within) (let f = facts in omega arith) (let f = facts in omega arith))
-      where
-        at : GlobalPtr
-        at = record { rank = rank; offset = index * width' - rank * layout'.per_rank }
+    pub mine_stands : IsItemAt width layout (index * width') index
+    mine_stands = item_stands width 0 layout mine.shape (seated.1 mine.shape mine.of) some (index * width') index mine_within (ap (λ (w : ℕ). index * w) wide)
 
   -- how a pass finds whether an index is its own
   module _ (shape : Shape) (of : view.key ≡ Some shape) where

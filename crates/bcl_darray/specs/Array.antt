@@ -12,6 +12,10 @@ use Rattle.bcl_darray.specs.declared.array.Shape.{Shape}
 abbrev pub ranks : Shape → ℕ
 ranks shape = shape.ranks
 
+-- the words of an item stand side by side
+abbrev pub laid_out : ℕ → Shape → Layout
+laid_out width shape = record { ranks = shape.ranks; per_rank = shape.per_rank * width }
+
 -- how many items there are
 abbrev pub size : Shape → ℕ
 size shape = shape.ranks * shape.per_rank

@@ -1,8 +1,7 @@
 -- What the calls of an array say, and what their steps tell.
 use Rattle.std.specs.Prelude.{◌≡◌, ℕ, ◌+◌, ◌*◌, ◌/◌, ◌<◌, ◌≤◌, ◌==◌, List, [], ◌∷◌, Bool, true, false, Option, Some, None, slice_index, if◌then◌else◌}
-use Rattle.bcl_segment.specs.declared.layout.GlobalPtr.{GlobalPtr}
 use Rattle.bcl_segment.specs.declared.layout.Layout.{Layout}
-use Rattle.bcl_segment.specs.Places.{place_of}
+use Rattle.bcl_segment.specs.Places.{places}
 use Rattle.bcl_event.specs.declared.event.Event.{Event}
 use Rattle.bcl_event.specs.declared.array.ArrayCall.{ArrayCall}
 use Rattle.bcl_event.specs.declared.array.ArrayCall.TheVariants.{Read, Write}
@@ -99,11 +98,10 @@ PutsWord width place item (Putting f) items did after = Puts (putting width f.pl
 
 -- ---- where an item stands
 
--- the words of the item stand side by side in the segment of one rank, the first of them here
-pub record IsItemAt (width : ℕ) (layout : Layout) (at : GlobalPtr) (index : ℕ) : Type 0 where
-  pub of_rank : at.rank < layout.ranks
-  pub room : at.offset + width ≤ layout.per_rank
-  pub first : place_of layout at ≡ index * width
+-- the words of the item stand side by side, and the first of them has this number
+pub record IsItemAt (width : ℕ) (layout : Layout) (at index : ℕ) : Type 0 where
+  pub first : at ≡ index * width
+  pub room : at + width ≤ places layout
 
 -- the layout and the key of a pass are those of an array
 abbrev pub IsSeated : ℕ → Option Shape → Layout → Type 0

@@ -1,14 +1,15 @@
 -- The words of an array fit as a rank comes or goes with no call in flight, and as another promise begins.
 -- These are the laws that the rule of all containers asks of the array.
-use Rattle.std.specs.Prelude.{◌≡◌, ℕ, zero, suc, ◌<◌, List, [], ◌∷◌, ◌++◌, Bool, length}
+use Rattle.std.specs.Prelude.{◌≡◌, ℕ, zero, suc, ◌<◌, List, [], ◌∷◌, ◌++◌, Bool, true, false, length}
 use Rattle.std.proofs.Common.{sym, refl, subst}
+use Rattle.std.proofs.lemmas.Bool.{false≢true}
 use mathlib.Core.Option.{some, some-injective, some-ne-none}
 use lib.ListN.{get_elem?}
 use Rattle.bcl_event.specs.Array.{item_at}
 use Rattle.bcl_phase.specs.Flights.{Lies}
 use Rattle.bcl_darray.specs.declared.array.Shape.{Shape}
 use Rattle.bcl_darray.specs.declared.array.Note.{Note}
-use Rattle.bcl_darray.specs.declared.array.Note.TheVariants.{Rest}
+use Rattle.bcl_darray.specs.declared.array.Note.TheVariants.{Rest, Getting, Putting}
 use Rattle.bcl_darray.specs.Array.{ranks}
 use Rattle.bcl_darray.specs.Fits.{Fits, Flies, put_by}
 
@@ -30,9 +31,16 @@ shorter [] r x e = absurd (some-ne-none x (sym e))
 shorter (y ∷ xs) zero x e = e
 shorter (y ∷ xs) (suc r) x e = shorter xs r x e
 
--- the one note of no call in flight
-abbrev pub IsRest : Note → Type 0
-IsRest x = x ≡ Rest
+-- no call is in flight
+abbrev pub is_rest : Note → Bool
+is_rest Rest = true
+is_rest (Getting f) = false
+is_rest (Putting f) = false
+
+pub at_rest : (x : Note) → is_rest x ≡ true → x ≡ Rest
+at_rest Rest e = refl
+at_rest (Getting f) e = absurd (false≢true e)
+at_rest (Putting f) e = absurd (false≢true e)
 
 module _ (width : ℕ) (passes : List ℕ → Bool) (shape : Shape) where
   pub admitted : (p : ℕ) (ws : List ℕ) (items : List (List ℕ)) (xs : List Note) → length xs < ranks shape → Fits width passes shape p ws items xs → Fits width passes shape p ws items (xs ++ Rest ∷ [])
@@ -44,8 +52,8 @@ module _ (width : ℕ) (passes : List ℕ → Bool) (shape : Shape) where
     flies = longer width shape p items xs (λ r. r) fit.flies;
   }
 
-  pub released : (p : ℕ) (ws : List ℕ) (items : List (List ℕ)) (xs : List Note) (y : Note) → IsRest y → Fits width passes shape p ws items (xs ++ y ∷ []) → Fits width passes shape p ws items xs
-  released p ws items xs y rest fitted = let fit = subst (λ (z : Note). Fits width passes shape p ws items (xs ++ z ∷ [])) rest fitted in record {
+  pub released : (p : ℕ) (ws : List ℕ) (items : List (List ℕ)) (xs : List Note) (y : Note) → is_rest y ≡ true → Fits width passes shape p ws items (xs ++ y ∷ []) → Fits width passes shape p ws items xs
+  released p ws items xs y rest fitted = let fit = subst (λ (z : Note). Fits width passes shape p ws items (xs ++ z ∷ [])) (at_rest y rest) fitted in record {
     count = fit.count;
     all = fit.all;
     whole = fit.whole;
@@ -53,8 +61,8 @@ module _ (width : ℕ) (passes : List ℕ → Bool) (shape : Shape) where
     flies = λ r x e. fit.flies r x (shorter xs r x e);
   }
 
-  pub begun_again : (p q : ℕ) (ws : List ℕ) (items : List (List ℕ)) → Fits width passes shape p ws items [] → Fits width passes shape q ws items []
-  begun_again p q ws items fit = record {
+  pub renewed : (p q : ℕ) (ws : List ℕ) (items : List (List ℕ)) → Fits width passes shape p ws items [] → Fits width passes shape q ws items []
+  renewed p q ws items fit = record {
     count = fit.count;
     all = fit.all;
     whole = fit.whole;

@@ -29,7 +29,7 @@ impl ArrayPass<Any, u64> {
         ensures atomics { (pass_view self.new).atomics ≡ (pass_view self.old).atomics }
     {
         let spot = self.number(lead, index);
-        self.pass.get::<Brand, u32>(&lead.lead, spot, &index)
+        self.pass.pass.get::<Brand, u32>(&lead.lead, spot, &index)
     }
 
     /// Writes the number at an index. One put. It never refuses.
@@ -45,6 +45,7 @@ impl ArrayPass<Any, u64> {
     {
         let spot = self.number(lead, index);
         self.pass
+            .pass
             .put::<Brand, (u32, u64)>(&lead.lead, spot, value, &(index, value));
     }
 
@@ -61,6 +62,7 @@ impl ArrayPass<Any, u64> {
     {
         let spot = self.number(lead, index);
         self.pass
+            .pass
             .fetch_add::<Brand, (u32, u64)>(&lead.lead, spot, n, &(index, n))
     }
 
@@ -78,6 +80,7 @@ impl ArrayPass<Any, u64> {
     {
         let spot = self.number(lead, index);
         self.pass
+            .pass
             .fetch_min::<Brand, (u32, u64)>(&lead.lead, spot, n, &(index, n))
     }
 
@@ -89,6 +92,6 @@ impl ArrayPass<Any, u64> {
         ensures spot { phase.HasSpot lead.now.lead result }
         ensures word { phase.lead_word lead.now.lead result ≡ index }
     {
-        Spot::At(self.pass.layout().ptr(index))
+        Spot::word(index)
     }
 }

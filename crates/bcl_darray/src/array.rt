@@ -2,12 +2,12 @@
 
 ghost use Rattle.bcl_phase.specs.Views.{opened};
 ghost use Rattle.bcl_phase.specs.Rule.{Kept};
-ghost use Rattle.bcl_darray.specs.Array.{ranks, start, next, permits};
+ghost use Rattle.bcl_darray.specs.Array.{ranks, laid_out, start, next, permits};
 ghost use Rattle.bcl_darray.specs.Fits.{Fits};
 
 use atomic_table::TableRule;
 use bcl_event::{ArrayCall, ArrayReply};
-use bcl_phase::{Any, Flight, Grants, Own, Phased, Promise, Read, View};
+use bcl_phase::{Any, Flight, Grants, Own, Phased, Read, Settles, View};
 use bcl_segment::Rule;
 use bcl_words::Object;
 use std::collections::LinkedList;
@@ -58,7 +58,8 @@ impl<T: Object> Rule for Array<T> {
 
 impl<T: Object> Phased for Array<T> {
     ghost use Rattle.std.specs.Prelude.{refl};
-    ghost use Rattle.bcl_darray.specs.Ranks.{IsRest, admitted, released, begun_again};
+    ghost use Rattle.bcl_words.specs.Words.{is_fit};
+    ghost use Rattle.bcl_darray.specs.Ranks.{is_rest, admitted, released, renewed};
     ghost use Rattle.bcl_darray.specs.declared.array.Note.TheVariants.{Rest};
 
     type Call = ArrayCall<Words>;
@@ -71,6 +72,12 @@ impl<T: Object> Phased for Array<T> {
 
     ghost ranks = { ranks };
 
+    ghost heads = { λ _. 0 };
+
+    ghost layout = { laid_out T.WORDS };
+
+    ghost sound = { λ _. is_fit T.WORDS };
+
     ghost start = { start };
 
     ghost next = { next };
@@ -79,9 +86,9 @@ impl<T: Object> Phased for Array<T> {
 
     ghost rest = { Rest };
 
-    ghost idle = { IsRest };
+    ghost idle = { λ _. is_rest };
 
-    ghost rests = { refl };
+    ghost rests = { λ _. refl };
 
     ghost fits = { Fits T.WORDS T.passes };
 
@@ -89,7 +96,7 @@ impl<T: Object> Phased for Array<T> {
 
     ghost releases = { released T.WORDS T.passes };
 
-    ghost begins = { begun_again T.WORDS T.passes };
+    ghost begins = { λ k. renewed T.WORDS T.passes k 0 };
 
     ghost from = { λ k s kept. kept };
 
@@ -98,16 +105,10 @@ impl<T: Object> Phased for Array<T> {
     ghost opens = { λ k. refl };
 }
 
-/// Items of some number of words.
-pub trait Items {
-    ghost use Rattle.std.specs.Prelude.{ℕ};
+impl<T: Object> Settles for Array<T> {
+    ghost use Rattle.bcl_darray.specs.Ranks.{renewed};
 
-    // how many words an item has
-    ghost width: { ℕ };
-}
-
-impl<T: Object> Items for Array<T> {
-    ghost width = { T.WORDS };
+    ghost settles = { λ k p. renewed T.WORDS T.passes k p 0 };
 }
 
 impl Grants<Any> for Array<u64> {}
@@ -115,37 +116,3 @@ impl Grants<Any> for Array<u64> {}
 impl<T: Object> Grants<Own> for Array<T> {}
 
 impl<T: Object> Grants<Read> for Array<T> {}
-
-/// The array's calls are proved under this promise, so that a phase may run under it.
-pub trait ArrayGrants<P: Promise>: Grants<P>
-    + Items
-    + Phased<
-        Call = ArrayCall<Words>,
-        Reply = ArrayReply<Words>,
-        State = LinkedList<Words>,
-        Note = Note,
-        Key = Shape,
-    > {
-    ghost use Rattle.std.specs.Prelude.{◌≡◌};
-    ghost use Rattle.bcl_darray.specs.declared.array.Note.TheVariants.{Rest};
-
-    ghost at_rest: { Self.Phased.rest ≡ Rest };
-}
-
-impl ArrayGrants<Any> for Array<u64> {
-    ghost use Rattle.std.specs.Prelude.{refl};
-
-    ghost at_rest = { refl };
-}
-
-impl<T: Object> ArrayGrants<Own> for Array<T> {
-    ghost use Rattle.std.specs.Prelude.{refl};
-
-    ghost at_rest = { refl };
-}
-
-impl<T: Object> ArrayGrants<Read> for Array<T> {
-    ghost use Rattle.std.specs.Prelude.{refl};
-
-    ghost at_rest = { refl };
-}

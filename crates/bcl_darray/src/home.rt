@@ -1,12 +1,9 @@
 //! Who has an array alone.
 
-ghost use Rattle.bcl_phase.specs.Parts.{home_key, home_layout, home_heads};
-ghost use Rattle.bcl_darray.specs.Array.{IsShaped};
-
-use crate::array::{Array, ArrayGrants, Items, Note, Shape};
+use crate::array::{Array, Shape};
 use crate::lead::ArrayLead;
 use crate::pass::ArrayPass;
-use bcl_phase::{Home, Phased, Promise, Refused};
+use bcl_phase::{Grants, Home, Phased, Promise, Refused};
 use bcl_segment::Layout;
 use bcl_words::{NoMemory, Object};
 use std::alloc::Global;
@@ -15,19 +12,15 @@ use std::alloc::Global;
 #[derive(Drop)]
 pub struct ArrayHome<T>
 where
-    Array<T>: Items + Phased<Note = Note, Key = Shape>,
+    Array<T>: Phased,
 {
-    pub(crate) home: Home<Array<T>>,
-    ghost shape: { IsShaped ⟦<Array<T> as Items>⟧.width (home_heads home) (home_layout home) (home_key home) },
+    pub home: Home<Array<T>>,
 }
 
 impl<T: Object> ArrayHome<T> {
-    ghost use Rattle.std.specs.Prelude.{◌≡◌, ◌*◌, ◌≤◌, ◌^◌, ℕ, length, IfOk, IfErr};
-    ghost use mathlib.Core.Option.{some};
-    ghost use lib.ListN.{get_elem?};
+    ghost use Rattle.std.specs.Prelude.{◌≡◌, ◌*◌, ◌≤◌, ◌^◌, IfOk};
     ghost use Rattle.bcl_words.specs.Words.{Fits};
     ghost use Rattle.bcl_phase.specs.Views.{opened};
-    ghost use Rattle.bcl_phase.specs.Phases.{begun};
     ghost use Rattle.bcl_darray.specs.declared.array.Note.TheVariants.{Rest};
     ghost use Rattle.bcl_darray.specs.Parts as array;
 
@@ -42,7 +35,6 @@ impl<T: Object> ArrayHome<T> {
         requires words { ranks * (per_rank * T.WORDS) ≤ 2 ^ 27 }
         ensures filled { IfOk result (λ h. array.home_view h ≡ opened (record { ranks = ranks; per_rank = per_rank; fill = T.words fill }) ranks Rest) }
         ensures key { IfOk result (λ h. array.home_key h ≡ record { ranks = ranks; per_rank = per_rank; fill = T.words fill }) }
-        ensures layout { IfOk result (λ h. array.home_layout h ≡ record { ranks = ranks; per_rank = per_rank * T.WORDS }) }
     {
         let layout = Layout {
             ranks,
@@ -58,6 +50,14 @@ impl<T: Object> ArrayHome<T> {
         let home = Home::new(alloc, layout, 0, words, &shape)?;
         Ok(ArrayHome { home })
     }
+}
+
+impl<T> ArrayHome<T>
+where
+    Array<T>: Phased,
+{
+    ghost use Rattle.std.specs.Prelude.{◌≡◌, IfOk, IfErr};
+    ghost use Rattle.bcl_phase.specs.Deals.{Begins};
 
     /// Begins a phase: as many passes as there are ranks, rank i at place i, and the lead that ends it.
     ///
@@ -68,12 +68,9 @@ impl<T: Object> ArrayHome<T> {
         alloc: Global,
     ) -> Result<(ArrayLead<T>, Vec<ArrayPass<P, T>>), Refused<ArrayHome<T>>>
     where
-        Array<T>: ArrayGrants<P>,
-        ensures count { IfOk result (λ r. length r.1.items ≡ (array.home_layout self).ranks) }
-        ensures begun { IfOk result (λ r. (i : ℕ) (p : _) → get_elem? r.1.items i ≡ some p → array.pass_view p ≡ begun Rest P.CODE (array.home_key self) (array.home_view self).seen i) }
-        ensures of { IfOk result (λ r. (i : ℕ) (p : _) → get_elem? r.1.items i ≡ some p → array.IsOf p r.0) }
-        ensures lead { IfOk result (λ r. array.IsLeadOf r.0 self × ((array.lead_view r.0).start ≡ (array.home_view self).seen) × ((array.lead_view r.0).promise ≡ P.CODE)) }
-        ensures refused { IfErr result (λ e. array.IsUnchanged self e.home) }
+        Array<T>: Grants<P>,
+        ensures begins { IfOk result (λ r. Begins (λ p. p.pass) P.CODE self.home r.0.lead r.1.items) }
+        ensures refused { IfErr result (λ e. e.home ≡ self) }
     {
         match self.home.begin::<P, ArrayPass<P, T>>(alloc) {
             Ok((lead, passes)) => Ok((ArrayLead { lead }, passes)),

@@ -4,44 +4,30 @@
 
 ghost use Rattle.std.specs.Prelude.{◌≡◌, ◌+◌, ◌/◌, ◌^◌, ◌<◌, [], ◌∷◌};
 ghost use Rattle.bcl_words.specs.Words.{Fits};
-ghost use Rattle.bcl_segment.specs.declared.layout.Spot.TheVariants.{At};
 ghost use Rattle.bcl_event.specs.History.{event};
 ghost use Rattle.bcl_event.specs.declared.array.ArrayCall.TheVariants.{Read, Write};
 ghost use Rattle.bcl_event.specs.declared.array.ArrayReply.TheVariants.{Value, Done};
-ghost use Rattle.bcl_phase.specs.Parts.{lead_key, lead_layout, lead_heads, pass_view, IsOf};
-ghost use Rattle.bcl_darray.specs.Array.{size, IsShaped};
+ghost use Rattle.bcl_phase.specs.Parts.{lead_key, lead_layout, pass_view, IsOf};
+ghost use Rattle.bcl_darray.specs.Array.{size};
 ghost use Rattle.bcl_darray.specs.Fits.{IsFixed};
 ghost use Rattle.bcl_darray.specs.Calls.{IsItemAt, IsAtRest, Stands};
 
 use crate::array::Array;
 use bcl_phase::{Lead, Own, Pass, Promise};
-use bcl_segment::{GlobalPtr, Spot};
+use bcl_segment::Spot;
 use bcl_words::Object;
 use std::marker::Brand;
 
-// The spot of the word j of an item.
-#[inline(always)]
-fn word(at: GlobalPtr, j: usize) -> Spot
-    requires room { at.offset + j < 2 ^ 32 }
-    ensures spot { result ≡ At (record { rank = at.rank; offset = at.offset + j }) }
-{
-    Spot::At(GlobalPtr {
-        rank: at.rank,
-        offset: at.offset + j as u32,
-    })
-}
-
-/// Reads the item whose first word stands at `at`. A get of each of its words: the read takes place at the last.
+/// Reads the item whose first word has the number `at`. A get of each of its words: the read takes place at the last.
 #[inline]
 pub(crate) fn read_item<T: Object, P: Promise>(
     pass: &mut Pass<Array<T>, P>,
     lead: &Lead<Array<T>>,
-    at: GlobalPtr,
+    at: u32,
     index: u32,
 ) -> T
     requires fits { Fits T.WORDS }
     requires of { IsOf pass.old lead.now }
-    requires shape { IsShaped T.WORDS (lead_heads lead.now) (lead_layout lead.now) (lead_key lead.now) }
     requires at { IsItemAt T.WORDS (lead_layout lead.now) at index }
     requires within { index < size (lead_key lead.now) }
     requires fixed { IsFixed (lead_key lead.now) P.CODE (pass_view pass.old).rank index }
@@ -56,27 +42,26 @@ pub(crate) fn read_item<T: Object, P: Promise>(
     let mut words = [0u64; 8];
     let last = T::WORDS - 1;
     for j in 0..last {
-        words[j] = pass.get::<Brand, (u32, usize)>(lead, word(at, j), &(index, j));
+        words[j] = pass.get::<Brand, (u32, usize)>(lead, Spot::word_of(at, j), &(index, j));
     }
-    words[last] = pass.get::<Brand, (u32, usize)>(lead, word(at, last), &(index, last));
+    words[last] = pass.get::<Brand, (u32, usize)>(lead, Spot::word_of(at, last), &(index, last));
     let Some(item) = T::from_words(&words) else {
         unreachable!()
     };
     item
 }
 
-/// Writes the item whose first word stands at `at`. A put of each of its words: the write takes place at the first.
+/// Writes the item whose first word has the number `at`. A put of each of its words: the write takes place at the first.
 #[inline]
 pub(crate) fn write_item<T: Object>(
     pass: &mut Pass<Array<T>, Own>,
     lead: &Lead<Array<T>>,
-    at: GlobalPtr,
+    at: u32,
     index: u32,
     item: &T,
 )
     requires fits { Fits T.WORDS }
     requires of { IsOf pass.old lead.now }
-    requires shape { IsShaped T.WORDS (lead_heads lead.now) (lead_layout lead.now) (lead_key lead.now) }
     requires at { IsItemAt T.WORDS (lead_layout lead.now) at index }
     requires within { index < size (lead_key lead.now) }
     requires mine { index / (lead_key lead.now).per_rank ≡ (pass_view pass.old).rank }
@@ -90,8 +75,8 @@ pub(crate) fn write_item<T: Object>(
 {
     let words = item.to_words();
     let about = (index, *item);
-    pass.put::<Brand, (u32, T)>(lead, word(at, 0), words[0], &about);
+    pass.put::<Brand, (u32, T)>(lead, Spot::word_of(at, 0), words[0], &about);
     for j in 1..T::WORDS {
-        pass.put::<Brand, (u32, T)>(lead, word(at, j), words[j], &about);
+        pass.put::<Brand, (u32, T)>(lead, Spot::word_of(at, j), words[j], &about);
     }
 }

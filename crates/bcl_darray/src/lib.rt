@@ -25,7 +25,7 @@ mod tests;
 #[cfg(test)]
 mod tutorial;
 
-pub use array::{Array, ArrayGrants, Items, Note, Shape, Words};
+pub use array::{Array, Note, Shape, Words};
 pub use home::ArrayHome;
 pub use lead::ArrayLead;
 pub use pass::ArrayPass;

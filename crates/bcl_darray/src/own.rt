@@ -1,7 +1,6 @@
 //! The calls under `Own`: each rank reads and writes in its own block.
 
 ghost use Rattle.std.specs.Prelude.{◌≡◌, ◌+◌, ◌↔◌, [], ◌∷◌, true};
-ghost use Rattle.bcl_words.specs.Words.{Fits};
 ghost use Rattle.bcl_event.specs.History.{event};
 ghost use Rattle.bcl_event.specs.declared.array.ArrayCall.TheVariants.{Read, Write};
 ghost use Rattle.bcl_event.specs.declared.array.ArrayReply.TheVariants.{Value, Done};
@@ -13,17 +12,15 @@ use crate::item::{read_item, write_item};
 use crate::lead::ArrayLead;
 use crate::pass::ArrayPass;
 use bcl_phase::Own;
-use bcl_segment::GlobalPtr;
 use bcl_words::Object;
 
 impl<T: Object> ArrayPass<Own, T> {
     /// Whether an index lies in the block of this rank. It makes no step.
     pub fn is_mine(&self, index: u32) -> bool
-        requires fits { Fits T.WORDS }
         ensures mine { (result ≡ true) ↔ IsMine (pass_view self.now) index }
     {
-        let items = self.pass.layout().per_rank / T::WORDS as u32;
-        let first = self.pass.rank() * items;
+        let items = self.pass.pass.layout().per_rank / T::WORDS as u32;
+        let first = self.pass.pass.rank() * items;
         first <= index && index - first < items
     }
 
@@ -31,7 +28,6 @@ impl<T: Object> ArrayPass<Own, T> {
     /// never refuses.
     #[inline]
     pub fn read(&mut self, lead: &ArrayLead<T>, index: u32) -> T
-        requires fits { Fits T.WORDS }
         requires of { IsOf self.old lead.now }
         requires mine { IsMine (pass_view self.old) index }
         ensures stands { Stands (lead_key lead.now) (pass_view self.old) (pass_view self.new) (event (pass_view self.old).rank (Read index) (Value (T.words result)) ∷ []) }
@@ -41,14 +37,13 @@ impl<T: Object> ArrayPass<Own, T> {
         ensures atomics { (pass_view self.new).atomics ≡ (pass_view self.old).atomics }
     {
         let at = self.own_item(index);
-        read_item(&mut self.pass, &lead.lead, at, index)
+        read_item(&mut self.pass.pass, &lead.lead, at, index)
     }
 
     /// Writes the item at an index of this rank's own block. A put of each of its words; the write takes place at the
     /// first. It never refuses.
     #[inline]
     pub fn write(&mut self, lead: &ArrayLead<T>, index: u32, value: &T)
-        requires fits { Fits T.WORDS }
         requires of { IsOf self.old lead.now }
         requires mine { IsMine (pass_view self.old) index }
         ensures stands { Stands (lead_key lead.now) (pass_view self.old) (pass_view self.new) (event (pass_view self.old).rank (Write index (T.words value.now)) Done ∷ []) }
@@ -58,21 +53,15 @@ impl<T: Object> ArrayPass<Own, T> {
         ensures atomics { (pass_view self.new).atomics ≡ (pass_view self.old).atomics }
     {
         let at = self.own_item(index);
-        write_item(&mut self.pass, &lead.lead, at, index, value);
+        write_item(&mut self.pass.pass, &lead.lead, at, index, value);
     }
 
-    // Where an item of this rank's own block stands.
+    // The number of the first word of an item of this rank's own block.
     #[inline(always)]
-    fn own_item(&self, index: u32) -> GlobalPtr
-        requires fits { Fits T.WORDS }
+    fn own_item(&self, index: u32) -> u32
         requires mine { IsMine (pass_view self.now) index }
-        ensures at { IsItemAt T.WORDS (phase.pass_layout self.now.pass) result index }
+        ensures at { IsItemAt T.WORDS (phase.pass_layout self.now.pass.pass) result index }
     {
-        let layout = self.pass.layout();
-        let rank = self.pass.rank();
-        GlobalPtr {
-            rank,
-            offset: index * T::WORDS as u32 - rank * layout.per_rank,
-        }
+        index * T::WORDS as u32
     }
 }

@@ -1,6 +1,6 @@
 mod Lists
 mod Entries
-mod Bits
+pub mod Bits
 mod Presence
 mod Orders
 pub mod Values

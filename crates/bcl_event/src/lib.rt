@@ -8,6 +8,7 @@
 //! - `event`: a call of a rank, and its reply.
 //! - `map`, `queue`, `array`, `filter`: the calls and the replies of each container.
 //! - `seq_map`, `seq_queue`, `seq_array`, `seq_filter`: the objects, which answer as their definitions.
+//! - `marks`: the bits that a hash marks in a block of a filter.
 //! - `laws`: what follows from the definitions.
 //! - `numbers`: the number that a value is, for the calls that count.
 #![tactic(auto)]
@@ -17,6 +18,7 @@ mod event;
 mod filter;
 mod laws;
 mod map;
+mod marks;
 mod numbers;
 mod queue;
 mod seq_array;
@@ -34,6 +36,7 @@ pub use laws::{
     numbers_name_promises, stored_values_are_found,
 };
 pub use map::{MapCall, MapReply};
+pub use marks::{are_set, bits_of, with_bits};
 pub use queue::{QueueCall, QueueReply};
 pub use seq_array::SeqArray;
 pub use seq_filter::SeqFilter;

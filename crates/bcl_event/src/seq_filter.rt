@@ -1,14 +1,13 @@
 //! The filter that one caller steps.
 
-ghost use Rattle.std.specs.Prelude.{◌≡◌, ◌≤◌, ◌<◌, ◌%◌, ◌==◌, ◌||◌, ℕ, List, [], take, IfOk, OnOk, OnErr};
-ghost use Rattle.std.specs.List.{All, list_all, list_any};
+ghost use Rattle.std.specs.Prelude.{◌≡◌, ◌≤◌, ◌%◌, List, ℕ, [], IfOk, OnOk, OnErr};
 ghost use Rattle.bcl_words.specs.Words.{Fits};
-ghost use Rattle.bcl_words.specs.Hash.{hash_of};
-ghost use Rattle.bcl_event.specs.Filter.{filter_step, filter_call, four_bits};
-ghost use Rattle.bcl_event.specs.SeqFilter.{HoldsMarks, IsInsert, Marks, answer_at, bits_at, has_bit};
+ghost use Rattle.bcl_event.specs.Filter.{filter_step, filter_call};
+ghost use Rattle.bcl_event.specs.SeqFilter.{HoldsMarks, IsInsert, Marks, answer_at, bits_at};
 
 use crate::filter::{FilterCall, FilterReply};
-use bcl_words::{NoMemory, Object, hash};
+use crate::marks::{are_set, bits_of, with_bits};
+use bcl_words::{NoMemory, Object, key_hash};
 use std::alloc::Global;
 use std::collections::BTreeMap;
 use std::marker::{Model, PhantomData};
@@ -58,8 +57,8 @@ impl<K: Object> SeqFilter<K> {
         ensures no_memory { OnErr result (IsInsert call.now) }
     {
         match call {
-            FilterCall::Insert(key) => self.insert(hash_of_key(key)),
-            FilterCall::Find(key) => Ok(self.find(hash_of_key(key))),
+            FilterCall::Insert(key) => self.insert(key_hash::<K>(&key.to_words())),
+            FilterCall::Find(key) => Ok(self.find(key_hash::<K>(&key.to_words()))),
         }
     }
 
@@ -99,57 +98,4 @@ impl<K: Object> SeqFilter<K> {
     {
         self.bits.get(&block).copied().unwrap_or(0)
     }
-}
-
-/// The hash of a key's own words.
-fn hash_of_key<K: Object>(key: &K) -> u64
-    requires fits { Fits K.WORDS }
-    ensures { result ≡ hash_of (take K.WORDS (K.words key.now)) }
-{
-    hash(&key.to_words()[..K::WORDS])
-}
-
-/// The four bits that a hash marks in its block.
-pub(crate) fn bits_of(h: u64) -> [u64; 4]
-    ensures { result ≡ four_bits h }
-{
-    [
-        (h >> 58) % 64,
-        (h >> 52) % 64,
-        (h >> 46) % 64,
-        (h >> 40) % 64,
-    ]
-}
-
-/// Whether all these bits are set.
-fn are_set(bits: u64, marked: &[u64; 4]) -> bool
-    requires { All (λ bit. bit < 64) marked.now }
-    ensures { result ≡ list_all (has_bit bits) marked.now }
-{
-    marked.iter().all(|bit| is_set(bits, *bit))
-}
-
-fn is_set(bits: u64, bit: u64) -> bool
-    requires { bit < 64 }
-    ensures { result ≡ has_bit bits bit }
-{
-    (bits >> bit) & 1 == 1
-}
-
-/// The bits, and these set.
-fn with_bits(bits: u64, marked: &[u64; 4]) -> u64
-    requires { All (λ bit. bit < 64) marked.now }
-    ensures { (bit : ℕ) → has_bit result bit ≡ (list_any (λ other. bit == other) marked.now || has_bit bits bit) }
-{
-    with_bit(
-        with_bit(with_bit(with_bit(bits, marked[3]), marked[2]), marked[1]),
-        marked[0],
-    )
-}
-
-fn with_bit(bits: u64, bit: u64) -> u64
-    requires { bit < 64 }
-    ensures { (other : ℕ) → has_bit result other ≡ ((other == bit) || has_bit bits other) }
-{
-    bits | 1 << bit
 }

@@ -3,7 +3,7 @@
 ghost use Rattle.bcl_words.specs.Numbers.{one_word};
 ghost use Rattle.std.specs.Prelude.{refl};
 
-use crate::seq_filter::bits_of;
+use crate::marks::bits_of;
 use crate::{
     ArrayCall, ArrayReply, FilterCall, FilterReply, MapCall, MapReply, QueueCall, QueueReply,
     SeqArray, SeqFilter, SeqMap, SeqQueue, inserted_keys_are_present, items_are_taken_in_order,

@@ -12,9 +12,8 @@ use Rattle.std.proofs.lemmas.Bool.{cases_lt}
 use Rattle.std.proofs.lemmas.Bool.Decides.{Decides-eqb}
 use mathlib.Core.Option.{some, some-ne-none, some-injective}
 use lib.ListN.{get_elem?}
-use Rattle.bcl_segment.specs.declared.layout.GlobalPtr.{GlobalPtr}
 use Rattle.bcl_segment.specs.declared.layout.Layout.{Layout}
-use Rattle.bcl_segment.specs.Places.{place_of}
+use Rattle.bcl_segment.specs.Places as segment
 use Rattle.bcl_phase.proofs.Homes.{snoc_cases}
 use Rattle.bcl_map.specs.declared.shape.Shape.{Shape}
 use Rattle.bcl_event.specs.History.{state_after}
@@ -226,24 +225,24 @@ module _ (kw vw : ℕ) (L : Shape) (p : ℕ) (ws : List ℕ) (t : Pairs) (f : Fi
     pub value_passes : value (object vw ws (size kw vw * i + (1 + kw))) ≡ true
     value_passes = ap value (value_is i low there) ∙ (typed there.k there.v there.valued.2).1
 
--- ---- the same at a pointer to the bucket
+-- ---- the same from the first word of the bucket on
 
 module _ (kw vw : ℕ) (key value : List ℕ → Bool) (layout : Layout) (L : Shape) (p : ℕ) (ws : List ℕ) (t : Pairs) (fit : Holds kw vw key value L p ws t []) (kmost : kw ≤ 8) (vmost : vw ≤ 8)
-    (at : GlobalPtr) (n : ℕ) (bucket : IsBucketAt (size kw vw) layout at n) (low : n < places L) where
-  pub part_within : (first width : ℕ) → first + width ≤ size kw vw → (at.rank < layout.ranks) × (at.offset + (first + width) ≤ layout.per_rank)
-  part_within first width part = (bucket.of_rank, let room = bucket.room in omega arith)
+    (at n : ℕ) (bucket : IsBucketAt (size kw vw) layout at n) (low : n < places L) where
+  pub part_within : (first width : ℕ) → first + width ≤ size kw vw → at + (first + width) ≤ segment.places layout
+  part_within first width part = let room = bucket.room in omega arith
 
-  pub part_long : (first width : ℕ) → first + width ≤ size kw vw → place_of layout at + (first + width) ≤ length ws
+  pub part_long : (first width : ℕ) → first + width ≤ size kw vw → at + (first + width) ≤ length ws
   part_long first width part = let start = bucket.first in let all = room kw vw L p ws t fit.places kmost vmost n low in omega arith
 
-  pub key_there : word kw vw ws n 0 ≢ 0 → key (object kw ws (place_of layout at + 1)) ≡ true
+  pub key_there : word kw vw ws n 0 ≢ 0 → key (object kw ws (at + 1)) ≡ true
   key_there ne = ap (λ (m : ℕ). key (object kw ws (m + 1))) bucket.first ∙ key_passes kw vw L p ws t fit.places kmost vmost key value fit.typed n low ne
 
-  pub value_there : (a : ℕ) → a ≡ kw → word kw vw ws n 0 ≢ 0 → value (object vw ws (place_of layout at + (1 + a))) ≡ true
+  pub value_there : (a : ℕ) → a ≡ kw → word kw vw ws n 0 ≢ 0 → value (object vw ws (at + (1 + a))) ≡ true
   value_there a is ne = (λ i. value (object vw ws (bucket.first i + (1 + is i)))) ∙ value_passes kw vw L p ws t fit.places kmost vmost key value fit.typed n low ne
 
   -- what was read of it is its pair
-  pub pair_read : (a : ℕ) → a ≡ kw → (k v : Words) → k ≡ object kw ws (place_of layout at + 1) → v ≡ object vw ws (place_of layout at + (1 + a)) → (k, v) ≡ pair_at kw vw ws n
+  pub pair_read : (a : ℕ) → a ≡ kw → (k v : Words) → k ≡ object kw ws (at + 1) → v ≡ object vw ws (at + (1 + a)) → (k, v) ≡ pair_at kw vw ws n
   pair_read a is k v read read' = λ i. ((read ∙ ap (λ (m : ℕ). object kw ws (m + 1)) bucket.first) i, (read' ∙ (λ j. object vw ws (bucket.first j + (1 + is j)))) i)
 
   -- there are few pairs before it
@@ -267,7 +266,7 @@ as_many_words key value (x ∷ es) = ap suc (as_many_words key value es)
 
 -- ---- a map that is closed
 
-module _ (kw vw : ℕ) (key value : List ℕ → Bool) (op : Words → Words → Words) (L : Shape) (v w : MapView) (ws : List ℕ) (fit : Holds kw vw key value L v.promise ws (contents op L v) []) (kmost : kw ≤ 8) (vmost : vw ≤ 8)
+module _ (kw vw : ℕ) (key value : List ℕ → Bool) (op : Words → Words → Words) (L : Shape) (v w : MapView) (p : ℕ) (ws : List ℕ) (fit : Holds kw vw key value L p ws (contents op L v) []) (kmost : kw ≤ 8) (vmost : vw ≤ 8)
     (seen : w.seen ≡ v.seen) (words : words_of w ≡ ws) (of : w.key ≡ Some L) (entries : Pairs) (listed : entries ≡ pairs_to kw vw ws (places L)) where
   no_key : (o : Option Shape) → o ≡ Some L → o ≡ None → ⊥
   no_key None e none = cc
@@ -280,9 +279,9 @@ module _ (kw vw : ℕ) (key value : List ℕ → Bool) (op : Words → Words →
   replay_of = record {
     of_map = no_key w.key of;
     each = λ shape is k. let same : L ≡ shape = same_shape w.key shape of is in
-        ap (value_at k) listed ∙ (replayed kw vw L v.promise ws (contents op L v) fit.places kmost vmost k ∙ (λ i. value_at k (state_after (next op (same i)) (first_pairs (same i)) (sym seen i))));
+        ap (value_at k) listed ∙ (replayed kw vw L p ws (contents op L v) fit.places kmost vmost k ∙ (λ i. value_at k (state_after (next op (same i)) (first_pairs (same i)) (sym seen i))));
     order = λ shape is. listed ∙ (λ i. pairs_to kw vw (sym words i) (places (same_shape w.key shape of is i)));
   }
 
   pub once_of : IsOnce entries
-  once_of = subst IsOnce (sym listed) (once kw vw L v.promise ws (contents op L v) fit.places kmost vmost)
+  once_of = subst IsOnce (sym listed) (once kw vw L p ws (contents op L v) fit.places kmost vmost)

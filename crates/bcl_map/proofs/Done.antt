@@ -4,8 +4,8 @@ use Rattle.std.proofs.Math.Nat.{mul-le-mul_right}
 use Rattle.bcl_event.specs.declared.map.MapCall.TheVariants.{Insert}
 use Rattle.bcl_event.specs.declared.map.MapReply.TheVariants.{New, Replaced, Full}
 use Rattle.bcl_map.specs.declared.shape.Shape.{Shape}
-use Rattle.bcl_map.specs.declared.insert.Inserted.{Inserted}
-use Rattle.bcl_map.specs.declared.insert.Inserted.TheVariants.{New as was_new, Replaced as was_replaced, Full as was_full}
+use Rattle.bcl_map.specs.declared.inserted.Inserted.{Inserted}
+use Rattle.bcl_map.specs.declared.inserted.Inserted.TheVariants.{New as was_new, Replaced as was_replaced, Full as was_full}
 use Rattle.bcl_map.specs.Map.{Words}
 use Rattle.bcl_map.specs.Calls.{MapView}
 use Rattle.bcl_map.specs.Costs.{taken}

@@ -11,6 +11,7 @@ use mathlib.Core.Logic.{dite}
 use mathlib.Core.Option.{some, some-ne-none, some-injective}
 use lib.ListN.{get_elem?}
 use Rattle.bcl_words.specs.Words.{IsWords}
+use Rattle.bcl_words.proofs.Fitting.{past}
 use Rattle.bcl_event.specs.History.{state_by}
 use Rattle.bcl_event.specs.declared.map.MapCall.{MapCall}
 use Rattle.bcl_event.specs.declared.map.MapCall.TheVariants.{Find}
@@ -83,10 +84,6 @@ walked_plain k zero = tt
 walked_plain k (suc d) = (tt, tt)
 
 -- ---- the words of keys and values
-
-pub past : (width : ℕ) (w : Words) → IsWords width w → (b : ℕ) → width ≤ b → b < 8 → slice_index w b ≡ 0
-past width w is b most below = let at : width + (b - width) ≡ b = omega arith in
-    ap (slice_index w) (sym at) ∙ sym (get_or-drop width w (b - width) 0) ∙ ap (λ (l : List ℕ). slice_index l (b - width)) is.zeros ∙ get_or-replicate (8 - width) (b - width) 0 0 (omega arith)
 
 -- objects of the same own words
 pub same_object : (width : ℕ) (v w : Words) → IsWords width v → IsWords width w → ((b : ℕ) → b < width → slice_index v b ≡ slice_index w b) → v ≡ w

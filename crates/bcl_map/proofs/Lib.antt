@@ -18,3 +18,4 @@ pub mod Fills
 pub mod Looks
 pub mod Walks
 pub mod Seated
+pub mod Quiet

@@ -3,12 +3,11 @@ use Rattle.std.proofs.Common.{◌≡◌, ℕ, ◌+◌, ◌*◌, ◌^◌, ◌<◌
 use Rattle.std.specs.Prelude.{Bool}
 use Rattle.std.proofs.lemmas.Bool.{cases_lt}
 use Rattle.std.proofs.lemmas.Grind.{same_number_lists}
-use Rattle.std.proofs.Math.Nat.{mul-pos, le-mul_of_pos_right, mul_comm}
+use Rattle.std.proofs.Math.Nat.{mul-pos}
 use Rattle.bcl_words.specs.Words.{IsWords}
-use Rattle.bcl_segment.specs.declared.layout.GlobalPtr.{GlobalPtr}
 use Rattle.bcl_segment.specs.declared.layout.Layout.{Layout}
 use Rattle.bcl_segment.specs.declared.layout.Spot.{Spot}
-use Rattle.bcl_segment.specs.declared.layout.Spot.TheVariants.{At}
+use Rattle.bcl_segment.specs.declared.layout.Spot.TheVariants.{Head}
 use Rattle.bcl_segment.specs.Places.{IsSpot, word_at}
 use Rattle.bcl_event.specs.declared.map.MapCall.{MapCall}
 use Rattle.bcl_event.specs.Map.{Pairs}
@@ -20,15 +19,13 @@ use Rattle.bcl_phase.specs.Told.{Took, Told}
 use Rattle.bcl_phase.specs.Stands.{Still}
 use Rattle.bcl_phase.proofs.Calls.{still_by, still_trans, stands_one, stands_behind}
 use Rattle.bcl_phase.specs.Rule.{Moves}
-use Rattle.bcl_phase.specs.Flights.{Lies}
-use Rattle.bcl_phase.proofs.Flights.{lies_put}
 use Rattle.bcl_map.specs.declared.shape.Shape.{Shape}
 use Rattle.bcl_map.specs.Map.{Words, Lawful, ranks, first_pairs, path, next, permits, size, IsShaped}
 use Rattle.bcl_map.specs.Notes.{Note}
 use Rattle.bcl_map.specs.Fits.{Holds}
 use Rattle.bcl_map.specs.Finds.{MaySee, Typed, walked, comparing, reading, value_of, Passes, FindsControl, FindsKey, FindsValue}
 use Rattle.bcl_map.specs.Calls.{MapView, Stands, IsBucketAt, IsPassed}
-use Rattle.bcl_map.proofs.Finds.{past, finds_control, finds_key, finds_value, typed_step}
+use Rattle.bcl_map.proofs.Finds.{finds_control, finds_key, finds_value, typed_step}
 
 -- ---- where the words of a bucket stand
 
@@ -39,15 +36,15 @@ module _ (kw vw heads : ℕ) (layout : Layout) (L : Shape) (shaped : IsShaped kw
     few_ranks = shaped.few_ranks;
   }
 
-  pub small : (at : GlobalPtr) (place : ℕ) → IsBucketAt (size kw vw) layout at place → at.offset + size kw vw ≤ 2 ^ 27
-  small at place bucket = let room = bucket.room in let few = shaped.few in let some : layout.per_rank ≤ layout.ranks * layout.per_rank = subst (λ (n : ℕ). layout.per_rank ≤ n) (mul_comm layout.per_rank layout.ranks) (le-mul_of_pos_right layout.per_rank (let of_rank = bucket.of_rank in omega arith)) in omega arith
+  pub small : (at place : ℕ) → IsBucketAt (size kw vw) layout at place → at + size kw vw ≤ 2 ^ 27
+  small at place bucket = let room = bucket.room in let few = shaped.few in omega arith
 
-  module _ (at : GlobalPtr) (place j : ℕ) (spot : Spot) (bucket : IsBucketAt (size kw vw) layout at place) (is : spot ≡ At (record { rank = at.rank; offset = at.offset + j })) where
+  module _ (at place j : ℕ) (spot : Spot) (bucket : IsBucketAt (size kw vw) layout at place) (is : spot ≡ Head (at + j)) where
     pub word_is : word_at heads layout spot ≡ size kw vw * place + j
-    word_is = ap (word_at heads layout) is ∙ let none = shaped.none in let first = bucket.first in omega arith
+    word_is = ap (word_at heads layout) is ∙ ap (λ (n : ℕ). n + j) bucket.first
 
     pub spot_is : j < size kw vw → IsSpot heads layout spot
-    spot_is low = let room = bucket.room in subst (IsSpot heads layout) (sym is) (bucket.of_rank, omega arith)
+    spot_is low = let room = bucket.room in subst (IsSpot heads layout) (sym is) (omega arith)
 
     -- what is found there by whoever knows the words
     pub found_is : (v v' : MapView) (heads' : ℕ) (layout' : Layout) (n : ℕ) → v' ≡ v → heads' ≡ heads → layout' ≡ layout → n ≡ slice_index (words_of v') (word_at heads' layout' spot) → n ≡ slice_index (words_of v) (size kw vw * place + j)
@@ -92,24 +89,3 @@ module _ (kw vw : ℕ) (op : Words → Words → Words) (L : Shape) (k : Words) 
     on = λ more. let on = passed.on more in (still_trans u v w still on.0, on.1);
     ends = λ last. let end = passed.ends last in (subst (λ (r : ℕ). Stands op L u w (event r (Find k) Absent ∷ [])) still.same.same_rank (stands_behind ranks first_pairs (next op) permits L u v w _ still end.0), end.1);
   }
-
--- ---- what was got
-
--- one word more
-pub more_lies : (got item : List ℕ) (j n : ℕ) → length got ≡ 8 → j < 8 → Lies got 0 item j → n ≡ slice_index item j → Lies (slice_set got j n) 0 item (j + 1)
-more_lies got item j n long room lies is = subst (λ (z : ℕ × ℕ). Lies (slice_set got z.0 z.1) 0 item (j + 1)) (λ i. (from_zero i, sym is i)) (lies_put got 0 item j (subst (λ (m : ℕ). 0 + j < m) (sym long) (omega arith)) lies)
-  where
-    from_zero : 0 + j ≡ j
-    from_zero = omega arith
-
-pub zeros_next : (got : List ℕ) (j n : ℕ) → ((k : ℕ) → j ≤ k → slice_index got k ≡ 0) → (k : ℕ) → j + 1 ≤ k → slice_index (slice_set got j n) k ≡ 0
-zeros_next got j n zeros k later = get_or-set_other got j k n 0 (omega arith) ∙ zeros k (omega arith)
-
--- all words
-pub whole_object : (width : ℕ) (got item : List ℕ) (j n : ℕ) → length got ≡ 8 → j < 8 → Lies got 0 item j → n ≡ slice_index item j → ((k : ℕ) → j ≤ k → slice_index got k ≡ 0) → j + 1 ≡ width → IsWords width item → slice_set got j n ≡ item
-whole_object width got item j n long room lies is zeros last words = same_number_lists (slice_set got j n) item (length-set got j n ∙ (long ∙ sym words.len))
-    (λ k below. ⊎_elim (λ (less : k < width). plain_at k ∙ more_lies got item j n long room lies is k (omega arith))
-    (λ (most : width ≤ k). zeros_next got j n zeros k (omega arith) ∙ sym (past width item words k most (let all : length (slice_set got j n) ≡ 8 = length-set got j n ∙ long in omega arith))) (cases_lt k width))
-  where
-    plain_at : (k : ℕ) → slice_index (slice_set got j n) k ≡ slice_index (slice_set got j n) (0 + k)
-    plain_at k = let same : k ≡ 0 + k = omega arith in ap (slice_index (slice_set got j n)) same

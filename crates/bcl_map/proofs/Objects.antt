@@ -6,7 +6,7 @@ use Rattle.std.proofs.lemmas.Bool.{cases_lt}
 use Rattle.bcl_words.specs.Words.{IsWords}
 use Rattle.bcl_map.specs.Map.{Words}
 use Rattle.bcl_map.specs.Closed.{object}
-use Rattle.bcl_map.proofs.Finds.{past}
+use Rattle.bcl_words.proofs.Fitting.{past}
 
 module _ (width : ℕ) (most : width ≤ 8) (ws : List ℕ) (from : ℕ) (long : from + width ≤ length ws) where
   abbrev own : List ℕ

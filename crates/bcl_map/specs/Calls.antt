@@ -1,8 +1,7 @@
 -- What the calls of a map say.
-use Rattle.std.specs.Prelude.{◌≡◌, ℕ, suc, ◌+◌, ◌*◌, ◌<◌, ◌≤◌, List, [], ◌∷◌, Option, Some, None, true, nat_lt, if◌then◌else◌}
-use Rattle.bcl_segment.specs.declared.layout.GlobalPtr.{GlobalPtr}
+use Rattle.std.specs.Prelude.{◌≡◌, ℕ, suc, ◌+◌, ◌*◌, ◌<◌, ◌≤◌, List, [], ◌∷◌, Option, Some, None, nat_lt, if◌then◌else◌}
 use Rattle.bcl_segment.specs.declared.layout.Layout.{Layout}
-use Rattle.bcl_segment.specs.Places.{place_of}
+use Rattle.bcl_segment.specs.Places as segment
 use Rattle.bcl_event.specs.declared.event.Event.{Event}
 use Rattle.bcl_event.specs.declared.map.MapCall.{MapCall}
 use Rattle.bcl_event.specs.declared.map.MapCall.TheVariants.{Find}
@@ -13,8 +12,8 @@ use Rattle.bcl_phase.specs.declared.view.View.{View}
 use Rattle.bcl_phase.specs.Stands as phase
 use Rattle.bcl_phase.specs.Stands.{Still}
 use Rattle.bcl_map.specs.declared.shape.Shape.{Shape}
-use Rattle.bcl_map.specs.Map.{Words, places, filling, home, ranks, first_pairs, next, permits, IsShaped}
-use Rattle.bcl_map.specs.Notes.{Note, Rests, is_none}
+use Rattle.bcl_map.specs.Map.{Words, places, home, ranks, first_pairs, next, permits, IsShaped}
+use Rattle.bcl_map.specs.Notes.{Note}
 use Rattle.bcl_map.specs.Finds.{walked}
 
 -- what a pass knows of a map
@@ -35,25 +34,19 @@ pub record IsMine (view : MapView) (key : Words) : Type 0 where
 abbrev pub IsSeated : ℕ → ℕ → Option Shape → Layout → Type 0
 IsSeated kw vw key layout = (key ≡ None → ⊥) × ((shape : Shape) → key ≡ Some shape → IsShaped kw vw 0 layout shape)
 
--- no call is in flight, and only single tries know of one before
-abbrev pub IsAtRest : ℕ → Note → Type 0
-IsAtRest promise x = Rests x × ((promise ≡ filling → ⊥) → is_none x.claims ≡ true)
-
--- the words of the place stand side by side in the segment of one rank, the first of them here
-pub record IsBucketAt (words : ℕ) (layout : Layout) (at : GlobalPtr) (place : ℕ) : Type 0 where
-  pub of_rank : at.rank < layout.ranks
-  pub room : at.offset + words ≤ layout.per_rank
-  pub first : place_of layout at ≡ words * place
+-- the place has so many words side by side, the first of which has this number
+pub record IsBucketAt (words : ℕ) (layout : Layout) (at place : ℕ) : Type 0 where
+  pub first : at ≡ words * place
+  pub room : at + words ≤ segment.places layout
 
 -- the place with this number on the path of a key is passed: the find goes on, or ends behind the last
 pub record IsPassed (op : Words → Words → Words) (shape : Shape) (key : Words) (number : ℕ) (old new : MapView) : Type 0 where
   pub on : suc number < places shape → Still old new × (new.note.claims ≡ walked key (suc number))
   pub ends : places shape ≤ suc number → Stands op shape old new (event old.rank (Find key) Absent ∷ []) × (new.note.claims ≡ [])
 
--- the bucket of so many words after one
-abbrev pub after : GlobalPtr → Layout → ℕ → GlobalPtr
-after at layout words = if nat_lt (at.offset + words) layout.per_rank then record { rank = at.rank; offset = at.offset + words }
-    else record { rank = if nat_lt (at.rank + 1) layout.ranks then at.rank + 1 else 0; offset = 0 }
+-- the bucket of so many words after one: after the last comes the first
+abbrev pub after : ℕ → ℕ → ℕ → ℕ
+after at end words = if nat_lt (at + words) end then at + words else 0
 
 -- what a find answers
 abbrev pub reply : {V : Type 0} → (V → Words) → Option V → MapReply Words

@@ -1,6 +1,7 @@
 -- The map under phases: its sequential object, what its promises permit, and where its words stand.
 -- A place has 1 + kw + vw words: its control word, and then its content, which is the words of a key and of its value.
-use Rattle.std.specs.Prelude.{◌≡◌, ℕ, ◌+◌, ◌*◌, ◌/◌, ◌%◌, ◌<◌, ◌≤◌, ◌^◌, List, [], ◌++◌, slice_index, take, Some}
+use Rattle.std.specs.Prelude.{◌≡◌, ℕ, ◌+◌, ◌*◌, ◌/◌, ◌%◌, ◌<◌, ◌≤◌, ◌^◌, ◌==◌, ◌&&◌, Bool, nat_le, List, [], ◌++◌, slice_index, take, Some}
+use Rattle.bcl_words.specs.Words.{is_fit}
 use Rattle.bcl_segment.specs.declared.layout.Layout.{Layout}
 use Rattle.bcl_segment.specs.Places as segment
 use Rattle.bcl_bucket.specs.Paths.{start_of}
@@ -81,6 +82,14 @@ module _ (kw vw : ℕ) where
   -- the first n words of the content are these
   abbrev pub Lies : List ℕ → ℕ → Words → ℕ → Type 0
   Lies ws i xs n = (b : ℕ) → b < n → word ws i (1 + b) ≡ slice_index xs b
+
+-- the segments of a map's shape, in words
+abbrev pub laid_out : ℕ → ℕ → Shape → Layout
+laid_out kw vw L = record { ranks = L.ranks; per_rank = L.per_rank * size kw vw }
+
+-- keys of the shape's width and values fit, and there are few ranks
+abbrev pub is_sound : ℕ → ℕ → Shape → Bool
+is_sound kw vw L = is_fit kw && (is_fit vw && ((L.width == kw) && nat_le L.ranks 64))
 
 -- the segments have no head words, and each bucket of a rank has its words side by side
 pub record IsShaped (kw vw heads : ℕ) (layout : Layout) (L : Shape) : Type 0 where

@@ -1,6 +1,6 @@
 -- What a pass knows of the map between two of its steps: a list of claims, each of a few kinds.
 -- A claim is of places, of the state or of the words, and stands by itself: a new stage of a call is a new list.
-use Rattle.std.specs.Prelude.{◌≡◌, ℕ, ◌+◌, ◌<◌, ◌≤◌, ◌⊎◌, ◌==◌, List, [], ◌∷◌, length, slice_index, cond, Some, Bool, true, false}
+use Rattle.std.specs.Prelude.{◌≡◌, ℕ, ◌+◌, ◌<◌, ◌≤◌, ◌⊎◌, ◌==◌, ◌&&◌, ◌||◌, List, [], ◌∷◌, length, slice_index, cond, Some, Bool, true, false}
 use Rattle.std.specs.List.{list_all}
 use mathlib.Core.Option.{some}
 use Rattle.bcl_map.specs.declared.shape.Shape.{Shape}
@@ -34,6 +34,10 @@ Rests x = list_all is_known x.claims ≡ true
 abbrev pub is_none : List Claim → Bool
 is_none [] = true
 is_none (a ∷ as') = false
+
+-- no call is in flight, and only single tries know of one before
+abbrev pub at_rest : ℕ → Note → Bool
+at_rest promise x = list_all is_known x.claims && ((promise == filling) || is_none x.claims)
 
 abbrev pub Has : Claim → List Claim → Type 0
 Has a [] = ⊥

@@ -1,57 +1,43 @@
 -- What a contract sees of a map's home, of its lead and of its passes, and when a pass is of a lead; and of a closed map.
 use Rattle.std.specs.Prelude.{◌≡◌}
 use Rattle.bcl_segment.specs.declared.layout.Layout.{Layout}
+use Rattle.bcl_phase.specs.declared.phased.Phased.{Ghosts}
 use Rattle.bcl_phase.specs.declared.view.View.{View}
 use Rattle.bcl_phase.specs.Parts as phase
-use Rattle.bcl_map.specs.declared.shape.Shape.{Shape}
-use Rattle.bcl_map.specs.declared.note.Note.{Note}
+use Rattle.bcl_map.specs.declared.map.Map.{Map}
 use Rattle.bcl_map.specs.declared.close.ClosedMap.{ClosedMap}
 use Rattle.bcl_map.specs.declared.home.MapHome.{MapHome}
 use Rattle.bcl_map.specs.declared.lead.MapLead.{MapLead}
 use Rattle.bcl_map.specs.declared.pass.MapPass.{MapPass}
 use Rattle.bcl_map.specs.Calls.{MapView}
 
-module _ {K V L C A T : Type 0} {o g : _} where
-  abbrev pub home_view : MapHome K V L C A T o g → View C A Note Shape
+module _ {K V L C A T X S : Type 0} {g : Ghosts (Map K V L) C A T X S} where
+  abbrev pub home_view : MapHome K V L C A T X S g → View C A X S
   home_view home = phase.home_view home.home
 
-  abbrev pub home_key : MapHome K V L C A T o g → Shape
+  abbrev pub home_key : MapHome K V L C A T X S g → S
   home_key home = phase.home_key home.home
 
-  abbrev pub home_layout : MapHome K V L C A T o g → Layout
+  abbrev pub home_layout : MapHome K V L C A T X S g → Layout
   home_layout home = phase.home_layout home.home
 
   -- the same home, with the same view
-  abbrev pub IsAsBefore : MapHome K V L C A T o g → MapHome K V L C A T o g → Type 0
+  abbrev pub IsAsBefore : MapHome K V L C A T X S g → MapHome K V L C A T X S g → Type 0
   IsAsBefore old new = phase.IsSameHome old.home new.home × (home_view new ≡ home_view old)
 
-  abbrev pub lead_view : MapLead K V L C A T o g → View C A Note Shape
+  abbrev pub lead_view : MapLead K V L C A T X S g → View C A X S
   lead_view lead = phase.lead_view lead.lead
 
-  abbrev pub lead_key : MapLead K V L C A T o g → Shape
+  abbrev pub lead_key : MapLead K V L C A T X S g → S
   lead_key lead = phase.lead_key lead.lead
 
-  abbrev pub lead_layout : MapLead K V L C A T o g → Layout
-  lead_layout lead = phase.lead_layout lead.lead
-
-  -- the same home, and as it was
-  abbrev pub IsUnchanged : MapHome K V L C A T o g → MapHome K V L C A T o g → Type 0
-  IsUnchanged old new = new.home ≡ old.home
-
-  -- the lead is of the same map
-  abbrev pub IsLeadOf : MapLead K V L C A T o g → MapHome K V L C A T o g → Type 0
-  IsLeadOf lead home = phase.IsLeadOf lead.lead home.home
-
-  abbrev pub IsSameLead : MapLead K V L C A T o g → MapLead K V L C A T o g → Type 0
-  IsSameLead old new = phase.IsSameLead old.lead new.lead
-
   module _ {P : Type 0} {p t : _} where
-    abbrev pub pass_view : MapPass P K V L C A T p o g t → View C A Note Shape
-    pass_view pass = phase.pass_view pass.pass
+    abbrev pub pass_view : MapPass P K V L C A T X S p g t → View C A X S
+    pass_view pass = phase.pass_view pass.pass.pass
 
     -- the pass was made together with the lead
-    abbrev pub IsOf : MapPass P K V L C A T p o g t → MapLead K V L C A T o g → Type 0
-    IsOf pass lead = phase.IsOf pass.pass lead.lead
+    abbrev pub IsOf : MapPass P K V L C A T X S p g t → MapLead K V L C A T X S g → Type 0
+    IsOf pass lead = phase.IsOf pass.pass.pass lead.lead
 
 module _ {K V L : Type 0} {k v l o g : _} where
   -- what the home knew: its history is the book of the closed map

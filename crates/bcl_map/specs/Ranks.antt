@@ -1,5 +1,5 @@
 -- The words of a map fit as a rank comes or goes with no call in flight, and as another promise begins.
-use Rattle.std.specs.Prelude.{Bool, true}
+use Rattle.std.specs.Prelude.{Bool, true, false, ◌==◌, ◌||◌}
 use Rattle.std.specs.List.{list_all}
 use Rattle.std.proofs.lemmas.Bool.{and_parts, false≢true}
 use Rattle.std.proofs.Common.{◌≡◌, ℕ, ◌+◌, ◌<◌, ◌≤◌, List, [], ◌∷◌, ◌++◌, length, get_or, refl, sym, ap, ◌∙◌, subst, ⊎_elim, arith}
@@ -9,11 +9,11 @@ use Rattle.atomic_table.proofs.Lists.{at_longer}
 use Rattle.bcl_phase.proofs.Homes.{snoc_cases}
 use Rattle.bcl_map.specs.declared.shape.Shape.{Shape}
 use Rattle.bcl_event.specs.Map.{Pairs}
-use Rattle.bcl_map.specs.Map.{ranks}
+use Rattle.bcl_map.specs.Map.{ranks, filling}
 use Rattle.bcl_map.specs.Cells.{Cell, free, kept, busy, control}
 use Rattle.bcl_map.specs.declared.note.Lock.{Lock}
 use Rattle.bcl_map.specs.declared.note.Before.{Before}
-use Rattle.bcl_map.specs.Notes.{Claim, passed, keyed, alike, settled, certain, lacking, lent, grips, many, met, Note, Has, is_known, Rests, rest, reads, reads_all, readers, AllSay}
+use Rattle.bcl_map.specs.Notes.{Claim, passed, keyed, alike, settled, certain, lacking, lent, grips, many, met, Note, Has, is_known, Rests, rest, at_rest, reads, reads_all, readers, AllSay}
 use Rattle.bcl_map.specs.Fits.{IsContent, MayBeRead, PlaceOk, fits, Holds}
 
 -- a known claim reads no place, and writes none
@@ -123,13 +123,21 @@ module _ (kw vw : ℕ) (L : Shape) where
       again i (kept k) h = h
       again i (busy l r k old v n) h = absurd (some-ne-none h.5.note (sym h.5.there))
 
+-- a pass comes at rest
+pub rests : (p : ℕ) → at_rest p rest ≡ true
+rests p = or_true (p == filling)
+  where
+    or_true : (b : Bool) → (b || true) ≡ true
+    or_true true = refl
+    or_true false = refl
+
 -- the same laws of the whole rule
 module _ (kw vw : ℕ) (key value : List ℕ → Bool) (L : Shape) where
   pub comes : (p : ℕ) (ws : List ℕ) (t : Pairs) (xs : List Note) → length xs < ranks L → Holds kw vw key value L p ws t xs → Holds kw vw key value L p ws t (xs ++ rest ∷ [])
   comes p ws t xs room h = record { places = admitted kw vw L p ws t xs room h.places; typed = h.typed }
 
-  pub goes : (p : ℕ) (ws : List ℕ) (t : Pairs) (xs : List Note) (y : Note) → Rests y → Holds kw vw key value L p ws t (xs ++ y ∷ []) → Holds kw vw key value L p ws t xs
-  goes p ws t xs y rests h = record { places = released kw vw L p ws t xs y rests h.places; typed = h.typed }
+  pub goes : (p : ℕ) (ws : List ℕ) (t : Pairs) (xs : List Note) (y : Note) → at_rest p y ≡ true → Holds kw vw key value L p ws t (xs ++ y ∷ []) → Holds kw vw key value L p ws t xs
+  goes p ws t xs y rests h = record { places = released kw vw L p ws t xs y (and_parts (list_all is_known y.claims) _ rests).0 h.places; typed = h.typed }
 
   pub begins : (p q : ℕ) (ws : List ℕ) (t : Pairs) → Holds kw vw key value L p ws t [] → Holds kw vw key value L q ws t []
   begins p q ws t h = record { places = begun_again kw vw L p q ws t h.places; typed = h.typed }

@@ -7,8 +7,8 @@ use Rattle.bcl_event.specs.declared.map.MapReply.{MapReply}
 use Rattle.bcl_event.specs.declared.map.MapReply.TheVariants.{New, Replaced, Full}
 use Rattle.bcl_phase.specs.Stands.{Still}
 use Rattle.bcl_map.specs.declared.shape.Shape.{Shape}
-use Rattle.bcl_map.specs.declared.insert.Inserted.{Inserted}
-use Rattle.bcl_map.specs.declared.insert.Inserted.TheVariants.{New as was_new, Replaced as was_replaced, Full as was_full}
+use Rattle.bcl_map.specs.declared.inserted.Inserted.{Inserted}
+use Rattle.bcl_map.specs.declared.inserted.Inserted.TheVariants.{New as was_new, Replaced as was_replaced, Full as was_full}
 use Rattle.bcl_map.specs.Map.{places, Words, home, tag}
 use Rattle.bcl_map.specs.Calls.{MapView, Stands}
 use Rattle.bcl_map.specs.Costs.{Events, keys, is_new}

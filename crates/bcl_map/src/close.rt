@@ -1,7 +1,6 @@
 //! How a map closes, and what a closed map has.
 
 ghost use Rattle.std.specs.Prelude.{◌≡◌, Some, IfOk, IfErr};
-ghost use Rattle.bcl_words.specs.Words.{Fits};
 ghost use Rattle.bcl_phase.specs.Parts.{closed_view};
 ghost use Rattle.bcl_map.specs.Closed.{in_words, IsReplay, IsOnce};
 
@@ -28,10 +27,8 @@ impl<K: Object, V: Object, L: MergeLaw<V>> MapHome<K, V, L> {
     /// Closes the map: its pairs are listed, and its words given back.
     ///
     /// It takes the memory of the list first, of as many pairs as there are. It refuses for want of that memory alone,
-    /// and hands the home back as it was. Condition: a key and a value fit.
+    /// and hands the home back as it was.
     pub fn close(self, alloc: Global) -> Result<ClosedMap<K, V, L>, Refused<MapHome<K, V, L>>>
-        requires key { Fits K.WORDS }
-        requires value { Fits V.WORDS }
         ensures book { IfOk result (λ c. ((map.closed_view c).seen ≡ (map.home_view self).seen) × ((map.closed_view c).key ≡ Some (map.home_key self))) }
         ensures refused { IfErr result (λ e. map.IsAsBefore self e.home) }
     {

@@ -7,9 +7,9 @@ ghost use Rattle.bcl_map.specs.Map.{places, IsShaped};
 ghost use Rattle.bcl_map.specs.Closed.{pairs_to};
 
 use crate::map::Map;
-use crate::walk::{in_buckets, next_bucket, word};
+use crate::walk::{bucket_at, in_buckets};
 use bcl_phase::Home;
-use bcl_segment::GlobalPtr;
+use bcl_segment::Spot;
 use bcl_words::{MergeLaw, Object};
 
 /// How many pairs there are: a look at the control word of each bucket.
@@ -24,16 +24,13 @@ pub(crate) fn count_pairs<K: Object, V: Object, L: MergeLaw<V>>(
     ensures view { home_view home.new ≡ home_view home.old }
     ensures same { IsSameHome home.old home.new }
 {
-    let layout = home.layout();
-    let buckets = in_buckets::<K, V>(layout);
+    let buckets = in_buckets::<K, V>(home.layout());
     let places = buckets.ranks * buckets.per_rank;
-    let mut at = GlobalPtr { rank: 0, offset: 0 };
     let mut count = 0;
     for place in 0..places {
-        if home.look(word(at, 0)) != 0 {
+        if home.look(Spot::word_of(bucket_at::<K, V>(place), 0)) != 0 {
             count += 1;
         }
-        at = next_bucket::<K, V>(at, layout);
     }
     count
 }

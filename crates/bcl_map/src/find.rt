@@ -14,7 +14,7 @@ use crate::lead::MapLead;
 use crate::look::{Look, look_at};
 use crate::map::Map;
 use crate::pass::MapPass;
-use crate::walk::{first_bucket, in_buckets, next_bucket};
+use crate::walk::{next_bucket, walk_of};
 use bcl_phase::{Find, Lead, Pass, Promise};
 use bcl_words::{MergeLaw, Object};
 
@@ -38,17 +38,15 @@ pub(crate) fn find_key<K: Object, V: Object, L: MergeLaw<V>, P: Promise>(
     ensures puts { (phase.pass_view pass.new).puts ≡ (phase.pass_view pass.old).puts }
     ensures atomics { (phase.pass_view pass.new).atomics ≡ (phase.pass_view pass.old).atomics }
 {
-    let layout = pass.layout();
-    let buckets = in_buckets::<K, V>(layout);
-    let places = buckets.ranks * buckets.per_rank;
-    let mut at = first_bucket::<K, V>(key, buckets);
-    let home = at.rank;
     let words = key.to_words();
-    for number in 0..places {
-        match look_at(pass, lead, at, &words, number, home, number + 1 == places) {
+    let walk = walk_of(pass, lead, &words);
+    let mut at = walk.at;
+    for number in 0..walk.places {
+        let last = number + 1 == walk.places;
+        match look_at(pass, lead, at, &words, number, walk.home, last) {
             Look::Found(value) => return Some(value),
             Look::Absent => return None,
-            Look::Passed => at = next_bucket::<K, V>(at, layout),
+            Look::Passed => at = next_bucket::<K, V>(at, walk.end),
         }
     }
     unreachable!()
@@ -59,8 +57,6 @@ impl<K: Object, V: Object, L: MergeLaw<V>> MapPass<Find, K, V, L> {
     /// and of the value's words. The find takes place at the last. It never refuses.
     #[inline]
     pub fn find(&mut self, lead: &MapLead<K, V, L>, key: &K) -> Option<V>
-        requires key { Fits K.WORDS }
-        requires value { Fits V.WORDS }
         requires of { IsOf self.old lead.now }
         ensures stands { Stands L.op (lead_key lead.now) (pass_view self.old) (pass_view self.new) (event (pass_view self.old).rank (a_find (K.words key.now)) (reply V.words result) ∷ []) }
         ensures of { IsOf self.new lead.now }
@@ -68,6 +64,6 @@ impl<K: Object, V: Object, L: MergeLaw<V>> MapPass<Find, K, V, L> {
         ensures puts { (pass_view self.new).puts ≡ (pass_view self.old).puts }
         ensures atomics { (pass_view self.new).atomics ≡ (pass_view self.old).atomics }
     {
-        find_key(&mut self.pass, &lead.lead, key)
+        find_key(&mut self.pass.pass, &lead.lead, key)
     }
 }

@@ -1,16 +1,14 @@
 //! Who has a map alone.
 
 ghost use Rattle.std.specs.Prelude.{◌≡◌, None};
-ghost use Rattle.bcl_phase.specs.Parts.{home_view, home_key, home_layout, home_heads};
-ghost use Rattle.bcl_map.specs.Map.{IsShaped};
+ghost use Rattle.bcl_phase.specs.Parts.{home_view};
 
 use crate::lead::MapLead;
-use crate::map::{Buckets, Map, MapGrants};
-use crate::note::Note;
+use crate::map::Map;
 use crate::pass::MapPass;
 use crate::shape::Shape;
 use crate::walk::in_buckets;
-use bcl_phase::{Home, Phased, Promise, Refused};
+use bcl_phase::{Grants, Home, Phased, Promise, Refused};
 use bcl_segment::Layout;
 use bcl_words::{MergeLaw, NoMemory, Object};
 use std::alloc::Global;
@@ -19,20 +17,16 @@ use std::alloc::Global;
 #[derive(Drop)]
 pub struct MapHome<K, V, L>
 where
-    Map<K, V, L>: Buckets + Phased<Note = Note, Key = Shape>,
+    Map<K, V, L>: Phased,
 {
-    pub(crate) home: Home<Map<K, V, L>>,
-    ghost shape: { IsShaped ⟦<Map<K, V, L> as Buckets>⟧.key_width ⟦<Map<K, V, L> as Buckets>⟧.value_width (home_heads home) (home_layout home) (home_key home) },
+    pub home: Home<Map<K, V, L>>,
     ghost unknown: { (home_view home).words ≡ None },
 }
 
 impl<K: Object, V: Object, L: MergeLaw<V>> MapHome<K, V, L> {
-    ghost use Rattle.std.specs.Prelude.{◌≡◌, ◌+◌, ◌*◌, ◌≤◌, ◌^◌, ℕ, length, IfOk, IfErr};
-    ghost use mathlib.Core.Option.{some};
-    ghost use lib.ListN.{get_elem?};
+    ghost use Rattle.std.specs.Prelude.{◌≡◌, ◌+◌, ◌*◌, ◌≤◌, ◌^◌, IfOk};
     ghost use Rattle.bcl_words.specs.Words.{Fits};
     ghost use Rattle.bcl_phase.specs.Views.{opened};
-    ghost use Rattle.bcl_phase.specs.Phases.{begun};
     ghost use Rattle.bcl_map.specs.Notes.{rest};
     ghost use Rattle.bcl_map.specs.Parts as map;
 
@@ -70,21 +64,26 @@ impl<K: Object, V: Object, L: MergeLaw<V>> MapHome<K, V, L> {
     {
         in_buckets::<K, V>(self.home.layout())
     }
+}
+
+impl<K, V, L> MapHome<K, V, L>
+where
+    Map<K, V, L>: Phased,
+{
+    ghost use Rattle.std.specs.Prelude.{◌≡◌, IfOk, IfErr};
+    ghost use Rattle.bcl_phase.specs.Deals.{Begins};
 
     /// Begins a phase: as many passes as there are ranks, rank i at place i, and the lead that ends it.
     ///
-    /// It refuses for want of memory alone, and hands the home back unchanged.
+    /// It refuses for want of memory alone, and hands the home back unchanged. A map grants `Find` and `Own`.
     pub fn begin<P: Promise>(
         self,
         alloc: Global,
     ) -> Result<(MapLead<K, V, L>, Vec<MapPass<P, K, V, L>>), Refused<MapHome<K, V, L>>>
     where
-        Map<K, V, L>: MapGrants<P>,
-        ensures count { IfOk result (λ r. length r.1.items ≡ (map.home_layout self).ranks) }
-        ensures begun { IfOk result (λ r. (i : ℕ) (p : _) → get_elem? r.1.items i ≡ some p → map.pass_view p ≡ begun rest P.CODE (map.home_key self) (map.home_view self).seen i) }
-        ensures of { IfOk result (λ r. (i : ℕ) (p : _) → get_elem? r.1.items i ≡ some p → map.IsOf p r.0) }
-        ensures lead { IfOk result (λ r. map.IsLeadOf r.0 self × ((map.lead_view r.0).start ≡ (map.home_view self).seen) × ((map.lead_view r.0).promise ≡ P.CODE)) }
-        ensures refused { IfErr result (λ e. map.IsUnchanged self e.home) }
+        Map<K, V, L>: Grants<P>,
+        ensures begins { IfOk result (λ r. Begins (λ p. p.pass) P.CODE self.home r.0.lead r.1.items) }
+        ensures refused { IfErr result (λ e. e.home.home ≡ self.home) }
     {
         match self.home.begin::<P, MapPass<P, K, V, L>>(alloc) {
             Ok((lead, passes)) => Ok((MapLead { lead }, passes)),

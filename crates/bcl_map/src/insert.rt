@@ -2,16 +2,16 @@
 //!
 //! No other rank inserts the key meanwhile. Another rank may take a bucket of its path that was met free.
 
-ghost use Rattle.std.specs.Prelude.{◌≡◌, ◌≢◌, ◌+◌, ◌*◌, ◌↔◌, ◌^◌, ◌<◌, ◌≤◌, [], true, false, Some};
+ghost use Rattle.std.specs.Prelude.{◌≡◌, ◌≢◌, ◌+◌, ◌*◌, ◌↔◌, ◌<◌, ◌≤◌, [], true, false, Some};
 ghost use Rattle.bcl_words.specs.Words.{Fits, IsWords};
 ghost use Rattle.bcl_event.specs.declared.map.MapCall.TheVariants.{Insert};
 ghost use Rattle.bcl_event.specs.declared.map.MapReply.TheVariants.{New, Replaced};
 ghost use Rattle.bcl_phase.specs.Parts.{lead_key, lead_layout, lead_heads, pass_view, IsOf};
 ghost use Rattle.bcl_phase.specs.Stands.{Still};
-ghost use Rattle.bcl_map.specs.declared.note.Before.TheVariants.{Nothing, Value as before};
-ghost use Rattle.bcl_map.specs.declared.insert.Inserted.TheVariants.{New as was_new};
+ghost use Rattle.bcl_map.specs.declared.note.Before.TheVariants.{Nothing};
+ghost use Rattle.bcl_map.specs.declared.inserted.Inserted.TheVariants.{New as was_new};
 ghost use Rattle.bcl_map.specs.Map as map;
-ghost use Rattle.bcl_map.specs.Map.{places, path, size, tag, IsShaped};
+ghost use Rattle.bcl_map.specs.Map.{places, path, size, IsShaped};
 ghost use Rattle.bcl_map.specs.Notes.{Knows};
 ghost use Rattle.bcl_map.specs.Finds.{reading, value_of};
 ghost use Rattle.bcl_map.specs.Calls.{IsBucketAt};
@@ -19,30 +19,19 @@ ghost use Rattle.bcl_map.specs.Inserts.{writing, old_of};
 ghost use Rattle.bcl_map.specs.Reaches.{KnowsOwn, Comes, Ends, IsHeading, HasPassed, IsMatching, IsFacing, IsPast, Meets, Inserts, words_put};
 
 use crate::control::{names_home, ready};
+use crate::inserted::Inserted;
 use crate::map::Map;
-use crate::walk::word;
 use bcl_phase::{Lead, Own, Pass};
-use bcl_segment::GlobalPtr;
+use bcl_segment::Spot;
 use bcl_words::{MergeLaw, Object};
 use std::marker::Brand;
-
-/// How a value was stored for a key.
-#[derive(Clone, Copy, Debug, PartialEq, Eq)]
-pub enum Inserted {
-    /// The key is new.
-    New,
-    /// The key was there, and has the new value.
-    Replaced,
-    /// The key isn't there, and each bucket is in use by another one.
-    Full,
-}
 
 /// The control word of the bucket with this number on the path of a key, of which the walk may know that it is in use.
 #[inline]
 fn see<K: Object, V: Object, L: MergeLaw<V>>(
     pass: &mut Pass<Map<K, V, L>, Own>,
     lead: &Lead<Map<K, V, L>>,
-    at: GlobalPtr,
+    at: u32,
     key: &[u64; 8],
     value: &[u64; 8],
     number: u32,
@@ -62,7 +51,11 @@ fn see<K: Object, V: Object, L: MergeLaw<V>>(
     ensures puts { (pass_view pass.new).puts ≡ (pass_view pass.old).puts }
     ensures atomics { (pass_view pass.new).atomics ≡ (pass_view pass.old).atomics }
 {
-    pass.get::<Brand, ([u64; 8], [u64; 8], u32)>(lead, word(at, 0), &(*key, *value, number))
+    pass.get::<Brand, ([u64; 8], [u64; 8], u32)>(
+        lead,
+        Spot::word_of(at, 0),
+        &(*key, *value, number),
+    )
 }
 
 /// The exchange of a bucket that was met free, to READY: whether it was won.
@@ -70,7 +63,7 @@ fn see<K: Object, V: Object, L: MergeLaw<V>>(
 fn take<K: Object, V: Object, L: MergeLaw<V>>(
     pass: &mut Pass<Map<K, V, L>, Own>,
     lead: &Lead<Map<K, V, L>>,
-    at: GlobalPtr,
+    at: u32,
     key: &[u64; 8],
     value: &[u64; 8],
     number: u32,
@@ -97,11 +90,12 @@ fn take<K: Object, V: Object, L: MergeLaw<V>>(
 {
     pass.cas::<Brand, ([u64; 8], [u64; 8], u32)>(
         lead,
-        word(at, 0),
+        Spot::word_of(at, 0),
         0,
         ready(home),
         &(*key, *value, number),
-    ).is_ok()
+    )
+    .is_ok()
 }
 
 /// Whether the key of a bucket of this home is this one: a get of each of its words, up to the first that differs.
@@ -109,7 +103,7 @@ fn take<K: Object, V: Object, L: MergeLaw<V>>(
 fn has_key<K: Object, V: Object, L: MergeLaw<V>>(
     pass: &mut Pass<Map<K, V, L>, Own>,
     lead: &Lead<Map<K, V, L>>,
-    at: GlobalPtr,
+    at: u32,
     key: &[u64; 8],
     value: &[u64; 8],
     number: u32,
@@ -134,7 +128,7 @@ fn has_key<K: Object, V: Object, L: MergeLaw<V>>(
     for j in 0..K::WORDS {
         let found = pass.get::<Brand, ([u64; 8], [u64; 8], u32, usize)>(
             lead,
-            word(at, 1 + j),
+            Spot::word_of(at, 1 + j),
             &(*key, *value, number, j),
         );
         if found != key[j] {
@@ -149,7 +143,7 @@ fn has_key<K: Object, V: Object, L: MergeLaw<V>>(
 fn put_value<K: Object, V: Object, L: MergeLaw<V>>(
     pass: &mut Pass<Map<K, V, L>, Own>,
     lead: &Lead<Map<K, V, L>>,
-    at: GlobalPtr,
+    at: u32,
     key: &[u64; 8],
     value: &[u64; 8],
     number: u32,
@@ -173,7 +167,7 @@ fn put_value<K: Object, V: Object, L: MergeLaw<V>>(
     for j in first..V::WORDS {
         pass.put::<Brand, ([u64; 8], [u64; 8], u32, usize)>(
             lead,
-            word(at, 1 + K::WORDS + j),
+            Spot::word_of(at, 1 + K::WORDS + j),
             value[j],
             &(*key, *value, number, K::WORDS + j),
         );
@@ -185,7 +179,7 @@ fn put_value<K: Object, V: Object, L: MergeLaw<V>>(
 fn put_pair<K: Object, V: Object, L: MergeLaw<V>>(
     pass: &mut Pass<Map<K, V, L>, Own>,
     lead: &Lead<Map<K, V, L>>,
-    at: GlobalPtr,
+    at: u32,
     key: &[u64; 8],
     value: &[u64; 8],
     number: u32,
@@ -207,7 +201,7 @@ fn put_pair<K: Object, V: Object, L: MergeLaw<V>>(
     for j in 0..K::WORDS {
         pass.put::<Brand, ([u64; 8], [u64; 8], u32, usize)>(
             lead,
-            word(at, 1 + j),
+            Spot::word_of(at, 1 + j),
             key[j],
             &(*key, *value, number, j),
         );
@@ -220,7 +214,7 @@ fn put_pair<K: Object, V: Object, L: MergeLaw<V>>(
 fn replace<K: Object, V: Object, L: MergeLaw<V>>(
     pass: &mut Pass<Map<K, V, L>, Own>,
     lead: &Lead<Map<K, V, L>>,
-    at: GlobalPtr,
+    at: u32,
     key: &[u64; 8],
     value: &[u64; 8],
     number: u32,
@@ -243,7 +237,7 @@ fn replace<K: Object, V: Object, L: MergeLaw<V>>(
 {
     pass.put::<Brand, ([u64; 8], [u64; 8], u32)>(
         lead,
-        word(at, 1 + K::WORDS),
+        Spot::word_of(at, 1 + K::WORDS),
         value[0],
         &(*key, *value, number),
     );
@@ -258,7 +252,7 @@ fn replace<K: Object, V: Object, L: MergeLaw<V>>(
 pub(crate) fn insert_at<K: Object, V: Object, L: MergeLaw<V>>(
     pass: &mut Pass<Map<K, V, L>, Own>,
     lead: &Lead<Map<K, V, L>>,
-    at: GlobalPtr,
+    at: u32,
     key: &[u64; 8],
     value: &[u64; 8],
     number: u32,

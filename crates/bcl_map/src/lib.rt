@@ -16,7 +16,7 @@
 //!   a contract sees of them.
 //! - `control`, `walk`: control words, and the way from bucket to bucket.
 //! - `find`: a find, and `look`, its look at one bucket.
-//! - `own`: the calls under `Own`, and `insert`, the insertion at one bucket.
+//! - `own`: the calls under `Own`, and `insert`, the insertion at one bucket, with what it is answered in `inserted`.
 //! - `close`: a map that is closed. `count` and `pairs` list what it has, by `specs/Closed.antt`.
 //!
 //! `tutorial` is a whole program on it, which docs/TUTORIAL.md goes through.
@@ -28,6 +28,7 @@ mod count;
 mod find;
 mod home;
 mod insert;
+mod inserted;
 mod lead;
 mod look;
 mod map;
@@ -44,9 +45,9 @@ mod walk;
 
 pub use close::ClosedMap;
 pub use home::MapHome;
-pub use insert::Inserted;
+pub use inserted::Inserted;
 pub use lead::MapLead;
-pub use map::{Buckets, Map, MapGrants};
+pub use map::Map;
 pub use note::{Before, Claim, Lock, Note, Words};
 pub use pass::MapPass;
 pub use shape::Shape;

@@ -18,9 +18,8 @@ ghost use Rattle.bcl_map.specs.Looks.{Looks, most_gets};
 
 use crate::control::names_home;
 use crate::map::Map;
-use crate::walk::word;
 use bcl_phase::{Lead, Pass, Promise};
-use bcl_segment::GlobalPtr;
+use bcl_segment::Spot;
 use bcl_words::{MergeLaw, Object};
 use std::marker::Brand;
 
@@ -29,7 +28,7 @@ use std::marker::Brand;
 fn value<K: Object, V: Object, L: MergeLaw<V>, P: Promise>(
     pass: &mut Pass<Map<K, V, L>, P>,
     lead: &Lead<Map<K, V, L>>,
-    at: GlobalPtr,
+    at: u32,
     key: &[u64; 8],
     number: u32,
 ) -> V
@@ -53,13 +52,13 @@ fn value<K: Object, V: Object, L: MergeLaw<V>, P: Promise>(
     for j in 0..last {
         words[j] = pass.get::<Brand, ([u64; 8], u32, usize)>(
             lead,
-            word(at, first + j),
+            Spot::word_of(at, first + j),
             &(*key, number, j),
         );
     }
     words[last] = pass.get::<Brand, ([u64; 8], u32, usize)>(
         lead,
-        word(at, first + last),
+        Spot::word_of(at, first + last),
         &(*key, number, last),
     );
     let Some(value) = V::from_words(&words) else {
@@ -74,7 +73,7 @@ fn value<K: Object, V: Object, L: MergeLaw<V>, P: Promise>(
 fn same_key<K: Object, V: Object, L: MergeLaw<V>, P: Promise>(
     pass: &mut Pass<Map<K, V, L>, P>,
     lead: &Lead<Map<K, V, L>>,
-    at: GlobalPtr,
+    at: u32,
     key: &[u64; 8],
     number: u32,
 ) -> bool
@@ -95,7 +94,7 @@ fn same_key<K: Object, V: Object, L: MergeLaw<V>, P: Promise>(
     for j in 0..K::WORDS {
         let found = pass.get::<Brand, ([u64; 8], u32, usize)>(
             lead,
-            word(at, 1 + j),
+            Spot::word_of(at, 1 + j),
             &(*key, number, j),
         );
         if found != key[j] {
@@ -121,7 +120,7 @@ pub(crate) enum Look<V> {
 pub(crate) fn look_at<K: Object, V: Object, L: MergeLaw<V>, P: Promise>(
     pass: &mut Pass<Map<K, V, L>, P>,
     lead: &Lead<Map<K, V, L>>,
-    at: GlobalPtr,
+    at: u32,
     key: &[u64; 8],
     number: u32,
     home: u32,
@@ -144,7 +143,7 @@ pub(crate) fn look_at<K: Object, V: Object, L: MergeLaw<V>, P: Promise>(
     ensures puts { (pass_view pass.new).puts ≡ (pass_view pass.old).puts }
     ensures atomics { (pass_view pass.new).atomics ≡ (pass_view pass.old).atomics }
 {
-    let control = pass.get::<Brand, ([u64; 8], u32)>(lead, word(at, 0), &(*key, number));
+    let control = pass.get::<Brand, ([u64; 8], u32)>(lead, Spot::word_of(at, 0), &(*key, number));
     if control == 0 {
         return Look::Absent;
     }

@@ -10,7 +10,7 @@ use crate::note::{Note, Words};
 use crate::shape::Shape;
 use atomic_table::TableRule;
 use bcl_event::{MapCall, MapReply};
-use bcl_phase::{Find, Grants, Own, Phased, Promise, View};
+use bcl_phase::{Find, Grants, Own, Phased, Settles, View};
 use bcl_segment::Rule;
 use bcl_words::{MergeLaw, Object};
 use std::collections::LinkedList;
@@ -39,8 +39,9 @@ impl<K: Object, V: Object, L: MergeLaw<V>> Rule for Map<K, V, L> {
 
 impl<K: Object, V: Object, L: MergeLaw<V>> Phased for Map<K, V, L> {
     ghost use Rattle.std.specs.Prelude.{refl};
-    ghost use Rattle.bcl_map.specs.Notes.{Rests};
-    ghost use Rattle.bcl_map.specs.Ranks.{comes, goes, begins};
+    ghost use Rattle.bcl_map.specs.Map.{laid_out, is_sound};
+    ghost use Rattle.bcl_map.specs.Notes.{at_rest};
+    ghost use Rattle.bcl_map.specs.Ranks.{rests, comes, goes, begins};
 
     type Call = MapCall<Words, Words>;
 
@@ -52,6 +53,12 @@ impl<K: Object, V: Object, L: MergeLaw<V>> Phased for Map<K, V, L> {
 
     ghost ranks = { ranks };
 
+    ghost heads = { λ _. 0 };
+
+    ghost layout = { laid_out K.WORDS V.WORDS };
+
+    ghost sound = { is_sound K.WORDS V.WORDS };
+
     ghost start = { first_pairs };
 
     ghost next = { next L.op };
@@ -60,9 +67,9 @@ impl<K: Object, V: Object, L: MergeLaw<V>> Phased for Map<K, V, L> {
 
     ghost rest = { rest };
 
-    ghost idle = { Rests };
+    ghost idle = { at_rest };
 
-    ghost rests = { refl };
+    ghost rests = { rests };
 
     ghost fits = { Holds K.WORDS V.WORDS K.passes V.passes };
 
@@ -70,7 +77,7 @@ impl<K: Object, V: Object, L: MergeLaw<V>> Phased for Map<K, V, L> {
 
     ghost releases = { goes K.WORDS V.WORDS K.passes V.passes };
 
-    ghost begins = { begins K.WORDS V.WORDS K.passes V.passes };
+    ghost begins = { λ k. begins K.WORDS V.WORDS K.passes V.passes k 0 };
 
     ghost from = { λ k s kept. kept };
 
@@ -79,57 +86,12 @@ impl<K: Object, V: Object, L: MergeLaw<V>> Phased for Map<K, V, L> {
     ghost opens = { λ k. refl };
 }
 
-/// How many words there are in a place.
-pub trait Buckets {
-    ghost use Rattle.std.specs.Prelude.{ℕ};
+impl<K: Object, V: Object, L: MergeLaw<V>> Settles for Map<K, V, L> {
+    ghost use Rattle.bcl_map.specs.Ranks.{begins};
 
-    // how many words a key has
-    ghost key_width: { ℕ };
-
-    // how many words a value has
-    ghost value_width: { ℕ };
-}
-
-impl<K: Object, V: Object, L: MergeLaw<V>> Buckets for Map<K, V, L> {
-    ghost key_width = { K.WORDS };
-
-    ghost value_width = { V.WORDS };
+    ghost settles = { λ k p. begins K.WORDS V.WORDS K.passes V.passes k p 0 };
 }
 
 impl<K: Object, V: Object, L: MergeLaw<V>> Grants<Find> for Map<K, V, L> {}
 
 impl<K: Object, V: Object, L: MergeLaw<V>> Grants<Own> for Map<K, V, L> {}
-
-/// The map's calls are proved under this promise, so that a phase may run under it.
-pub trait MapGrants<P: Promise>: Grants<P>
-    + Buckets
-    + Phased<
-        Call = MapCall<Words, Words>,
-        Reply = MapReply<Words>,
-        State = LinkedList<(Words, Words)>,
-        Note = Note,
-        Key = Shape,
-    > {
-    ghost use Rattle.std.specs.Prelude.{◌≡◌};
-    ghost use Rattle.bcl_map.specs.Notes.{rest, Rests};
-
-    ghost at_rest: { Self.Phased.rest ≡ rest };
-
-    ghost idles: { (x : _) → Rests x → Self.Phased.idle x };
-}
-
-impl<K: Object, V: Object, L: MergeLaw<V>> MapGrants<Find> for Map<K, V, L> {
-    ghost use Rattle.std.specs.Prelude.{refl};
-
-    ghost at_rest = { refl };
-
-    ghost idles = { λ x rests. rests };
-}
-
-impl<K: Object, V: Object, L: MergeLaw<V>> MapGrants<Own> for Map<K, V, L> {
-    ghost use Rattle.std.specs.Prelude.{refl};
-
-    ghost at_rest = { refl };
-
-    ghost idles = { λ x rests. rests };
-}

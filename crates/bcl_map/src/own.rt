@@ -12,11 +12,12 @@ ghost use Rattle.bcl_map.specs.Reaches.{inserted, words_put_by, most_atomics};
 ghost use Rattle.bcl_map.specs.Parts.{lead_key, pass_view, IsOf};
 
 use crate::find::find_key;
-use crate::insert::{Inserted, insert_at};
+use crate::insert::insert_at;
+use crate::inserted::Inserted;
 use crate::lead::MapLead;
 use crate::map::Map;
 use crate::pass::MapPass;
-use crate::walk::{first_bucket, in_buckets, next_bucket};
+use crate::walk::{next_bucket, walk_of};
 use bcl_phase::{Lead, Own, Pass};
 use bcl_words::{MergeLaw, Object};
 
@@ -41,18 +42,24 @@ fn insert_key<K: Object, V: Object, L: MergeLaw<V>>(
     ensures puts { (phase.pass_view pass.new).puts ≡ (phase.pass_view pass.old).puts + words_put_by K.WORDS V.WORDS result }
     ensures atomics { (phase.pass_view pass.new).atomics ≤ (phase.pass_view pass.old).atomics + most_atomics (taken (phase.pass_view pass.old) (phase.pass_view pass.new)) result }
 {
-    let layout = pass.layout();
-    let buckets = in_buckets::<K, V>(layout);
-    let places = buckets.ranks * buckets.per_rank;
-    let mut at = first_bucket::<K, V>(key, buckets);
-    let home = at.rank;
     let words = key.to_words();
+    let walk = walk_of(pass, lead, &words);
+    let mut at = walk.at;
     let value_words = value.to_words();
-    for number in 0..places {
-        let last = number + 1 == places;
-        match insert_at(pass, lead, at, &words, &value_words, number, home, last) {
+    for number in 0..walk.places {
+        let last = number + 1 == walk.places;
+        match insert_at(
+            pass,
+            lead,
+            at,
+            &words,
+            &value_words,
+            number,
+            walk.home,
+            last,
+        ) {
             Some(inserted) => return inserted,
-            None => at = next_bucket::<K, V>(at, layout),
+            None => at = next_bucket::<K, V>(at, walk.end),
         }
     }
     unreachable!()
@@ -65,8 +72,6 @@ impl<K: Object, V: Object, L: MergeLaw<V>> MapPass<Own, K, V, L> {
     /// Condition: the key's home is this rank, as `is_mine` tells.
     #[inline]
     pub fn find(&mut self, lead: &MapLead<K, V, L>, key: &K) -> Option<V>
-        requires key { Fits K.WORDS }
-        requires value { Fits V.WORDS }
         requires of { IsOf self.old lead.now }
         requires mine { IsMine (pass_view self.old) (K.words key.now) }
         ensures stands { Stands L.op (lead_key lead.now) (pass_view self.old) (pass_view self.new) (event (pass_view self.old).rank (Find (K.words key.now)) (reply V.words result) ∷ []) }
@@ -75,7 +80,7 @@ impl<K: Object, V: Object, L: MergeLaw<V>> MapPass<Own, K, V, L> {
         ensures puts { (pass_view self.new).puts ≡ (pass_view self.old).puts }
         ensures atomics { (pass_view self.new).atomics ≡ (pass_view self.old).atomics }
     {
-        find_key(&mut self.pass, &lead.lead, key)
+        find_key(&mut self.pass.pass, &lead.lead, key)
     }
 
     /// Stores a value for a key, in the place of its old one if it has one. It refuses for want of a bucket alone, where
@@ -89,8 +94,6 @@ impl<K: Object, V: Object, L: MergeLaw<V>> MapPass<Own, K, V, L> {
     /// Condition: the key's home is this rank, as `is_mine` tells.
     #[inline]
     pub fn insert(&mut self, lead: &MapLead<K, V, L>, key: &K, value: &V) -> Inserted
-        requires key { Fits K.WORDS }
-        requires value { Fits V.WORDS }
         requires of { IsOf self.old lead.now }
         requires mine { IsMine (pass_view self.old) (K.words key.now) }
         ensures stands { Stands L.op (lead_key lead.now) (pass_view self.old) (pass_view self.new) (event (pass_view self.old).rank (Insert (K.words key.now) (V.words value.now)) (inserted result) ∷ []) }
@@ -99,6 +102,6 @@ impl<K: Object, V: Object, L: MergeLaw<V>> MapPass<Own, K, V, L> {
         ensures puts { (pass_view self.new).puts ≡ (pass_view self.old).puts + words_put_by K.WORDS V.WORDS result }
         ensures atomics { (pass_view self.new).atomics ≤ (pass_view self.old).atomics + most_atomics (taken (pass_view self.old) (pass_view self.new)) result }
     {
-        insert_key(&mut self.pass, &lead.lead, key, value)
+        insert_key(&mut self.pass.pass, &lead.lead, key, value)
     }
 }

@@ -1,8 +1,6 @@
-ghost use Rattle.std.specs.Prelude.{◌≡◌, ◌≤◌, ◌+◌, ◌*◌, ◌^◌, ℕ, length, IfOk, refl, [], ◌∷◌};
-ghost use mathlib.Core.Option.{some};
-ghost use lib.ListN.{get_elem?};
+ghost use Rattle.std.specs.Prelude.{◌≡◌, ◌≤◌, ◌+◌, ◌*◌, ◌^◌, length, IfOk, refl, [], ◌∷◌};
 ghost use Rattle.bcl_words.specs.Words.{Fits};
-ghost use Rattle.bcl_map.specs.Parts.{pass_view, lead_layout, IsOf};
+ghost use Rattle.bcl_phase.specs.Deals.{AreOf, AreAll};
 
 use crate::{ClosedMap, MapHome, MapLead, MapPass};
 use bcl_merge::Sum;
@@ -32,8 +30,7 @@ fn begun<K: Object, V: Object, L: MergeLaw<V>>(
     alloc: Global,
     home: MapHome<K, V, L>,
 ) -> Result<(MapLead<K, V, L>, Vec<MapPass<Find, K, V, L>>), Fail>
-    ensures all { IfOk result (λ r. length r.1.items ≡ (lead_layout r.0).ranks) }
-    ensures of { IfOk result (λ r. (i : ℕ) (p : _) → get_elem? r.1.items i ≡ some p → IsOf p r.0 × ((pass_view p).rank ≡ i)) }
+    ensures all { IfOk result (λ r. AreAll (λ p. p.pass) r.0.lead r.1.items) }
 {
     let home = match home.begin::<Find>(alloc) {
         Ok(begun) => return Ok(begun),
@@ -51,10 +48,8 @@ fn turned<K: Object, V: Object, L: MergeLaw<V>>(
     lead: MapLead<K, V, L>,
     passes: Vec<MapPass<Find, K, V, L>>,
 ) -> Result<(MapLead<K, V, L>, Vec<MapPass<Find, K, V, L>>), Fail>
-    requires all { length passes.items ≡ (lead_layout lead).ranks }
-    requires of { (i : ℕ) (p : _) → get_elem? passes.items i ≡ some p → IsOf p lead × ((pass_view p).rank ≡ i) }
-    ensures all { IfOk result (λ r. length r.1.items ≡ (lead_layout r.0).ranks) }
-    ensures of { IfOk result (λ r. (i : ℕ) (p : _) → get_elem? r.1.items i ≡ some p → IsOf p r.0 × ((pass_view p).rank ≡ i)) }
+    requires all { AreAll (λ p. p.pass) lead.lead passes.items }
+    ensures all { IfOk result (λ r. AreAll (λ p. p.pass) r.0.lead r.1.items) }
 {
     match lead.turn::<Find, Find>(alloc, passes) {
         Ok(turned) => Ok(turned),
@@ -68,10 +63,8 @@ fn last_finds<K: Object, V: Object, L: MergeLaw<V>>(
     passes: &mut Vec<MapPass<Find, K, V, L>>,
     key: &K,
 ) -> Result<Option<V>, Fail>
-    requires key { Fits K.WORDS }
-    requires value { Fits V.WORDS }
-    requires of { (i : ℕ) (p : _) → get_elem? passes.old.items i ≡ some p → IsOf p lead.now × ((pass_view p).rank ≡ i) }
-    ensures of { IfOk result (λ _. (i : ℕ) (p : _) → get_elem? passes.new.items i ≡ some p → IsOf p lead.now × ((pass_view p).rank ≡ i)) }
+    requires of { AreOf (λ p. p.pass) lead.now.lead passes.old.items }
+    ensures of { IfOk result (λ _. AreOf (λ p. p.pass) lead.now.lead passes.new.items) }
     ensures all { IfOk result (λ _. length passes.new.items ≡ length passes.old.items) }
 {
     let Some(mut pass) = passes.pop() else {
@@ -86,10 +79,7 @@ fn last_finds<K: Object, V: Object, L: MergeLaw<V>>(
 fn closed<K: Object, V: Object, L: MergeLaw<V>>(
     alloc: Global,
     home: MapHome<K, V, L>,
-) -> Result<ClosedMap<K, V, L>, Fail>
-    requires key { Fits K.WORDS }
-    requires value { Fits V.WORDS }
-{
+) -> Result<ClosedMap<K, V, L>, Fail> {
     let home = match home.close(alloc) {
         Ok(closed) => return Ok(closed),
         Err(refused) => refused.home,

@@ -3,13 +3,12 @@
 ghost use Rattle.std.specs.Prelude.{◌≡◌, ◌+◌, ℕ, length, IfOk};
 ghost use mathlib.Core.Option.{some};
 ghost use lib.ListN.{get_elem?};
-ghost use Rattle.bcl_words.specs.Words.{Fits};
-ghost use Rattle.bcl_map.specs.Parts.{lead_layout, pass_view, IsOf};
+ghost use Rattle.bcl_phase.specs.Deals.{view, IsIn, AreOf, AreAll};
 
-use crate::{Buckets, Inserted, Map, MapHome, MapLead, MapPass, Note, Shape};
+use crate::{Inserted, Map, MapHome, MapLead, MapPass};
 use bcl_merge::Sum;
-use bcl_phase::{Always, Find, Kit, Own, Phased, superstep_all};
-use bcl_words::{MergeLaw, Object};
+use bcl_phase::{Always, Carries, Find, Kit, Own, Phased, passes_of, superstep_all};
+use bcl_words::{MergeLaw, NoMemory, Object};
 use std::alloc::{AllocError, Global};
 use std::marker::Sync;
 use std::test::Fail;
@@ -19,7 +18,7 @@ use std::thread::Threads;
 #[derive(Drop)]
 pub(crate) struct Indexer<'a, K, V, L>
 where
-    Map<K, V, L>: Buckets + Phased<Note = Note, Key = Shape>,
+    Map<K, V, L>: Phased,
 {
     lead: &'a MapLead<K, V, L>,
     pass: MapPass<Own, K, V, L>,
@@ -29,9 +28,9 @@ where
 }
 
 impl<'a> Kit for Indexer<'a, u64, u64, Sum> {
-    ghost ready = { λ k. IsOf k.pass k.lead.now };
+    ghost ready = { λ k. IsIn k.pass.pass k.lead.now.lead };
 
-    ghost step = { λ k l. (l.lead ≡ k.lead) × IsOf l.pass k.lead.now × ((pass_view l.pass).rank ≡ (pass_view k.pass).rank) };
+    ghost step = { λ k l. (l.lead ≡ k.lead) × IsIn l.pass.pass k.lead.now.lead × ((view l.pass.pass).rank ≡ (view k.pass.pass).rank) };
 
     fn rank(&self) -> u32 {
         self.pass.rank()
@@ -50,18 +49,24 @@ impl<'a> Kit for Indexer<'a, u64, u64, Sum> {
     }
 }
 
+impl<'a> Carries for Indexer<'a, u64, u64, Sum> {
+    type Pass = MapPass<Own, u64, u64, Sum>;
+
+    ghost pass = { λ k. k.pass };
+
+    fn into_pass(self) -> MapPass<Own, u64, u64, Sum> {
+        self.pass
+    }
+}
+
 // Begins a phase under Own.
 pub(crate) fn begun<K: Object, V: Object, L: MergeLaw<V>>(
     alloc: Global,
     home: MapHome<K, V, L>,
-) -> Result<(MapLead<K, V, L>, Vec<MapPass<Own, K, V, L>>), Fail>
-    ensures all { IfOk result (λ r. length r.1.items ≡ (lead_layout r.0).ranks) }
-    ensures of { IfOk result (λ r. (i : ℕ) (p : _) → get_elem? r.1.items i ≡ some p → IsOf p r.0 × ((pass_view p).rank ≡ i)) }
+) -> Result<(MapLead<K, V, L>, Vec<MapPass<Own, K, V, L>>), NoMemory>
+    ensures all { IfOk result (λ r. AreAll (λ p. p.pass) r.0.lead r.1.items) }
 {
-    match home.begin::<Own>(alloc) {
-        Ok(begun) => Ok(begun),
-        Err(_) => Err(Fail::new("no memory")),
-    }
+    Ok(home.begin::<Own>(alloc)?)
 }
 
 // The next phase, under Find.
@@ -69,16 +74,11 @@ pub(crate) fn turned<K: Object, V: Object, L: MergeLaw<V>>(
     alloc: Global,
     lead: MapLead<K, V, L>,
     passes: Vec<MapPass<Own, K, V, L>>,
-) -> Result<(MapLead<K, V, L>, Vec<MapPass<Find, K, V, L>>), Fail>
-    requires all { length passes.items ≡ (lead_layout lead).ranks }
-    requires of { (i : ℕ) (p : _) → get_elem? passes.items i ≡ some p → IsOf p lead × ((pass_view p).rank ≡ i) }
-    ensures all { IfOk result (λ r. length r.1.items ≡ (lead_layout r.0).ranks) }
-    ensures of { IfOk result (λ r. (i : ℕ) (p : _) → get_elem? r.1.items i ≡ some p → IsOf p r.0 × ((pass_view p).rank ≡ i)) }
+) -> Result<(MapLead<K, V, L>, Vec<MapPass<Find, K, V, L>>), NoMemory>
+    requires all { AreAll (λ p. p.pass) lead.lead passes.items }
+    ensures all { IfOk result (λ r. AreAll (λ p. p.pass) r.0.lead r.1.items) }
 {
-    match lead.turn::<Own, Find>(alloc, passes) {
-        Ok(turned) => Ok(turned),
-        Err(_) => Err(Fail::new("no memory")),
-    }
+    Ok(lead.turn::<Own, Find>(alloc, passes)?)
 }
 
 // An indexer for each pass, the last rank first.
@@ -88,9 +88,9 @@ pub(crate) fn indexers<'a>(
     mut passes: Vec<MapPass<Own, u64, u64, Sum>>,
     keys: &'a [u64],
 ) -> Result<Vec<Indexer<'a, u64, u64, Sum>>, AllocError>
-    requires passes { (i : ℕ) (p : _) → get_elem? passes.items i ≡ some p → IsOf p lead.now × ((pass_view p).rank ≡ i) }
+    requires passes { AreOf (λ p. p.pass) lead.now.lead passes.items }
     ensures all { IfOk result (λ kits. length kits.items ≡ length passes.items) }
-    ensures kits { IfOk result (λ kits. (i : ℕ) (k : _) → get_elem? kits.items i ≡ some k → (k.lead.now ≡ lead.entry.now) × IsOf k.pass lead.entry.now × ((pass_view k.pass).rank + i + 1 ≡ length passes.items)) }
+    ensures kits { IfOk result (λ kits. (i : ℕ) (k : _) → get_elem? kits.items i ≡ some k → (k.lead.now ≡ lead.entry.now) × IsIn k.pass.pass lead.entry.now.lead × ((view k.pass.pass).rank + i + 1 ≡ length passes.items)) }
 {
     let mut kits = Vec::new(alloc);
     while let Some(pass) = passes.pop() {
@@ -104,31 +104,9 @@ pub(crate) fn indexers<'a>(
     Ok(kits)
 }
 
-// The passes of these indexers, in the order of their ranks.
-pub(crate) fn passes_of(
-    alloc: Global,
-    lead: &MapLead<u64, u64, Sum>,
-    mut kits: Vec<Indexer<u64, u64, Sum>>,
-) -> Result<Vec<MapPass<Own, u64, u64, Sum>>, AllocError>
-    requires kits { (i : ℕ) (k : _) → get_elem? kits.items i ≡ some k → IsOf k.pass lead.now × ((pass_view k.pass).rank + i + 1 ≡ length kits.items) }
-    ensures all { IfOk result (λ passes. length passes.items ≡ length kits.entry.items) }
-    ensures passes { IfOk result (λ passes. (i : ℕ) (p : _) → get_elem? passes.items i ≡ some p → IsOf p lead.now × ((pass_view p).rank ≡ i)) }
-{
-    let mut passes = Vec::new(alloc);
-    while let Some(kit) = kits.pop() {
-        passes.push(kit.pass)?;
-    }
-    Ok(passes)
-}
-
 // How many pairs a map has.
-fn count_of<K: Object>(alloc: Global, home: MapHome<K, u64, Sum>) -> Result<usize, Fail>
-    requires key { Fits K.WORDS }
-{
-    match home.close(alloc) {
-        Ok(closed) => Ok(closed.entries().len()),
-        Err(_) => Err(Fail::new("no memory")),
-    }
+fn count_of<K: Object>(alloc: Global, home: MapHome<K, u64, Sum>) -> Result<usize, NoMemory> {
+    Ok(home.close(alloc)?.entries().len())
 }
 
 // What an index of a list says of two keys, and how many keys it has.
@@ -150,7 +128,7 @@ fn look_up<H: Threads + Sync>(
     superstep_all(rt, &mut kits, &Always);
 
     // No rank has a pass after this: it is the barrier.
-    let passes = passes_of(alloc, &lead, kits)?;
+    let passes = passes_of(alloc, &lead.lead, kits)?;
     let (lead, mut passes) = turned(alloc, lead, passes)?;
 
     // Under `Find` every rank may find every key, with plain loads.

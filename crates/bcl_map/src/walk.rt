@@ -1,16 +1,27 @@
-//! The way along the path of a key, from bucket to bucket.
+//! The way along the path of a key, from bucket to bucket. A bucket is named by the number of its first word.
 
-ghost use Rattle.std.specs.Prelude.{◌≡◌, ◌+◌, ◌*◌, ◌/◌, ◌-◌, ◌^◌, ◌<◌, ◌≤◌};
+ghost use Rattle.std.specs.Prelude.{◌≡◌, ◌+◌, ◌*◌, ◌/◌, ◌^◌, ◌<◌, ◌≤◌};
 ghost use Rattle.bcl_words.specs.Words.{Fits};
-ghost use Rattle.bcl_segment.specs.Places.{places};
-ghost use Rattle.bcl_segment.specs.declared.layout.Spot.TheVariants.{At};
-ghost use Rattle.bcl_bucket.specs.Paths.{start_of};
-ghost use Rattle.bcl_map.specs.Map.{size};
-ghost use Rattle.bcl_map.specs.Calls.{after};
+ghost use Rattle.bcl_segment.specs.Places as segment;
+ghost use Rattle.bcl_phase.specs.Parts.{lead_key, lead_layout, lead_heads, IsOf};
+ghost use Rattle.bcl_map.specs.Map as map;
+ghost use Rattle.bcl_map.specs.Map.{places, path, size, IsShaped};
+ghost use Rattle.bcl_map.specs.Calls.{IsBucketAt, after};
 
-use bcl_bucket::start;
-use bcl_segment::{GlobalPtr, Layout, Spot};
-use bcl_words::Object;
+use crate::map::Map;
+use bcl_bucket::start_of_words;
+use bcl_phase::{Lead, Pass, Promise};
+use bcl_segment::Layout;
+use bcl_words::{MergeLaw, Object};
+
+// How many words a bucket has.
+#[inline(always)]
+fn bucket_words<K: Object, V: Object>() -> u32
+    requires few { size K.WORDS V.WORDS ≤ 2 ^ 27 }
+    ensures words { result ≡ size K.WORDS V.WORDS }
+{
+    1 + (K::WORDS + V::WORDS) as u32
+}
 
 // The same layout, counted in buckets.
 #[inline(always)]
@@ -18,64 +29,69 @@ pub(crate) fn in_buckets<K: Object, V: Object>(layout: Layout) -> Layout
     requires few { size K.WORDS V.WORDS ≤ 2 ^ 27 }
     ensures buckets { result ≡ record { ranks = layout.ranks; per_rank = layout.per_rank / size K.WORDS V.WORDS } }
 {
-    let bucket = 1 + (K::WORDS + V::WORDS) as u32;
     Layout {
         ranks: layout.ranks,
-        per_rank: layout.per_rank / bucket,
+        per_rank: layout.per_rank / bucket_words::<K, V>(),
     }
 }
 
-// The bucket where the path of a key begins. Its rank is the key's home.
+// The bucket at a place.
 #[inline(always)]
-pub(crate) fn first_bucket<K: Object, V: Object>(key: &K, buckets: Layout) -> GlobalPtr
+pub(crate) fn bucket_at<K: Object, V: Object>(place: u32) -> u32
+    requires few { size K.WORDS V.WORDS ≤ 2 ^ 27 }
+    requires room { place * size K.WORDS V.WORDS < 2 ^ 32 }
+    ensures at { result ≡ place * size K.WORDS V.WORDS }
+{
+    place * bucket_words::<K, V>()
+}
+
+/// A walk along the path of a key.
+#[derive(Clone, Copy)]
+pub(crate) struct Walk {
+    /// How many buckets there are.
+    pub places: u32,
+    /// How many words they have together.
+    pub end: u32,
+    /// The rank in whose segment the path begins.
+    pub home: u32,
+    /// The bucket where it begins.
+    pub at: u32,
+}
+
+/// The walk of a key with these words.
+#[inline(always)]
+pub(crate) fn walk_of<K: Object, V: Object, L: MergeLaw<V>, P: Promise>(
+    pass: &Pass<Map<K, V, L>, P>,
+    lead: &Lead<Map<K, V, L>>,
+    key: &[u64; 8],
+) -> Walk
     requires key { Fits K.WORDS }
-    requires some { 1 ≤ places buckets }
-    requires few { places buckets * size K.WORDS V.WORDS ≤ 2 ^ 27 }
-    ensures rank { result.rank ≡ start_of K.WORDS (K.words key.now) (places buckets) / buckets.per_rank }
-    ensures offset { result.offset ≡ (start_of K.WORDS (K.words key.now) (places buckets) - result.rank * buckets.per_rank) * size K.WORDS V.WORDS }
+    requires of { IsOf pass.now lead.now }
+    requires shape { IsShaped K.WORDS V.WORDS (lead_heads lead.now) (lead_layout lead.now) (lead_key lead.now) }
+    ensures places { result.places ≡ places (lead_key lead.now) }
+    ensures end { result.end ≡ segment.places (lead_layout lead.now) }
+    ensures home { result.home ≡ map.home (lead_key lead.now) key.now }
+    ensures at { IsBucketAt (size K.WORDS V.WORDS) (lead_layout lead.now) result.at (path (lead_key lead.now) key.now 0) }
 {
-    let bucket = 1 + (K::WORDS + V::WORDS) as u32;
-    let first = start(key, buckets.ranks * buckets.per_rank);
-    let home = first / buckets.per_rank;
-    GlobalPtr {
-        rank: home,
-        offset: (first - home * buckets.per_rank) * bucket,
+    let layout = pass.layout();
+    let buckets = in_buckets::<K, V>(layout);
+    let places = buckets.ranks * buckets.per_rank;
+    let first = start_of_words::<K>(key, places);
+    Walk {
+        places,
+        end: layout.ranks * layout.per_rank,
+        home: first / buckets.per_rank,
+        at: bucket_at::<K, V>(first),
     }
 }
 
-// The bucket after one: after the last comes the first.
+// The bucket after one, where there are so many words: after the last comes the first.
 #[inline(always)]
-pub(crate) fn next_bucket<K: Object, V: Object>(at: GlobalPtr, layout: Layout) -> GlobalPtr
-    requires at { at.offset + size K.WORDS V.WORDS ≤ layout.per_rank }
-    requires rank { at.rank < layout.ranks }
-    ensures next { result ≡ after at layout (size K.WORDS V.WORDS) }
+pub(crate) fn next_bucket<K: Object, V: Object>(at: u32, end: u32) -> u32
+    requires at { at + size K.WORDS V.WORDS ≤ end }
+    requires few { end ≤ 2 ^ 27 }
+    ensures next { result ≡ after at end (size K.WORDS V.WORDS) }
 {
-    let bucket = 1 + (K::WORDS + V::WORDS) as u32;
-    let offset = at.offset + bucket;
-    if offset < layout.per_rank {
-        return GlobalPtr {
-            rank: at.rank,
-            offset,
-        };
-    }
-    GlobalPtr {
-        rank: if at.rank + 1 < layout.ranks {
-            at.rank + 1
-        } else {
-            0
-        },
-        offset: 0,
-    }
-}
-
-// The spot of the word j of a bucket.
-#[inline(always)]
-pub(crate) fn word(at: GlobalPtr, j: usize) -> Spot
-    requires room { at.offset + j < 2 ^ 32 }
-    ensures spot { result ≡ At (record { rank = at.rank; offset = at.offset + j }) }
-{
-    Spot::At(GlobalPtr {
-        rank: at.rank,
-        offset: at.offset + j as u32,
-    })
+    let next = at + bucket_words::<K, V>();
+    if next < end { next } else { 0 }
 }

@@ -1,5 +1,5 @@
 -- Calls of several steps, and runs of several calls.
-use Rattle.std.proofs.Common.{◌≡◌, ℕ, ◌≤◌, List, [], ◌∷◌, ◌++◌, refl, sym, ap, ◌∙◌, subst, arith, ◌⊎◌, inl, inr, ⊎_elim}
+use Rattle.std.proofs.Common.{◌≡◌, ℕ, ◌≤◌, List, [], ◌∷◌, ◌++◌, refl, sym, ap, ◌∙◌, subst, arith, length, le_refl, le_trans, ◌⊎◌, inl, inr, ⊎_elim}
 use Rattle.std.specs.List.{All}
 use Rattle.std.proofs.lemmas.List.Elements.{All-nil, All-append}
 use mathlib.Core.List.{IsPrefix, append-nil, append_assoc}
@@ -30,7 +30,7 @@ atomics_risen atomic n = omega arith
 
 module _ {C A X K : Type 0} where
   pub goes_on_refl : (v : View C A X K) → GoesOn v v
-  goes_on_refl v = record { same_role = refl; same_key = refl; same_rank = refl; same_promise = refl; gets_rise = omega arith; puts_rise = omega arith; atomics_rise = omega arith }
+  goes_on_refl v = record { same_role = refl; same_key = refl; same_rank = refl; same_promise = refl; gets_rise = omega arith; puts_rise = omega arith; atomics_rise = omega arith; found_rises = le_refl (length v.found) }
 
   pub goes_on_trans : (u v w : View C A X K) → GoesOn u v → GoesOn v w → GoesOn u w
   goes_on_trans u v w a b = let g = a.gets_rise in let g' = b.gets_rise in let p = a.puts_rise in let p' = b.puts_rise in let n = a.atomics_rise in let n' = b.atomics_rise in record {
@@ -41,6 +41,7 @@ module _ {C A X K : Type 0} where
     gets_rise = omega arith;
     puts_rise = omega arith;
     atomics_rise = omega arith;
+    found_rises = le_trans a.found_rises b.found_rises;
   }
 
   pub still_refl : (v : View C A X K) → Still v v
@@ -92,6 +93,7 @@ module _ {C A X K T : Type 0} (ranks : K → ℕ) (start : K → T) (next : K �
           gets_rise = subst (λ (z : ℕ). v.gets ≤ z) (sym took.gets_rise) (gets_risen tick v.gets);
           puts_rise = subst (λ (z : ℕ). v.puts ≤ z) (sym took.puts_rise) (puts_risen tick v.puts);
           atomics_rise = subst (λ (z : ℕ). v.atomics ≤ z) (sym took.atomics_rise) (atomics_risen tick v.atomics);
+          found_rises = took.found_rises;
         };
         sees = record { late = took.late; grows = took.grows; permitted = took.permitted };
       }

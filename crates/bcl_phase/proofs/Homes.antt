@@ -1,5 +1,5 @@
 -- The home keeps the rule as it cuts passes, takes them back, begins a phase, and steps alone.
-use Rattle.std.proofs.Common.{◌≡◌, ◌≢◌, ℕ, zero, suc, ◌+◌, ◌<◌, ◌≤◌, List, [], ◌∷◌, ◌++◌, length, slice_index, slice_set, set, refl, sym, ap, ◌∙◌, subst, ⊎_elim, arith, le_refl, ◌⊎◌, inl, inr, Some, None, false}
+use Rattle.std.proofs.Common.{◌≡◌, ◌≢◌, ℕ, zero, suc, ◌+◌, ◌<◌, ◌≤◌, List, [], ◌∷◌, ◌++◌, length, slice_index, slice_set, set, refl, sym, ap, ◌∙◌, subst, ⊎_elim, arith, le_refl, ◌⊎◌, inl, inr, Some, None, Bool, true, false}
 use Rattle.std.specs.List.{All}
 use Rattle.std.proofs.lemmas.Option.{none-some}
 use Rattle.std.proofs.lemmas.Bool.{false≢true}
@@ -81,12 +81,12 @@ module _ {C A X K T : Type 0} (ranks : K → ℕ) (start : K → T) (next : K �
   Admits = (p : ℕ) (ws : List ℕ) (t : T) (xs : List X) → length xs < ranks k → fits k p ws t xs → fits k p ws t (xs ++ rest ∷ [])
 
   -- the last rank, with no call in flight, is taken off
-  abbrev Releases : (X → Type 0) → Type 0
-  Releases idle = (p : ℕ) (ws : List ℕ) (t : T) (xs : List X) (y : X) → idle y → fits k p ws t (xs ++ y ∷ []) → fits k p ws t xs
+  abbrev Releases : (ℕ → X → Type 0) → Type 0
+  Releases idle = (p : ℕ) (ws : List ℕ) (t : T) (xs : List X) (y : X) → idle p y → fits k p ws t (xs ++ y ∷ []) → fits k p ws t xs
 
-  -- where no rank is left, another promise may begin
-  abbrev Begins : Type 0
-  Begins = (p q : ℕ) (ws : List ℕ) (t : T) → fits k p ws t [] → fits k q ws t []
+  -- where no rank is left, what fits under one promise fits under the other
+  abbrev Renews : ℕ → ℕ → Type 0
+  Renews p q = (ws : List ℕ) (t : T) → fits k p ws t [] → fits k q ws t []
 
   home_is : (s : S) (r : Rule s) (v : V) → get_elem? s.views 0 ≡ plain.some v → v ≡ r.home
   home_is s r v at = sym (some-injective r.home v (subst (λ (l : List V). get_elem? l 0 ≡ plain.some v) r.views at))
@@ -135,7 +135,7 @@ module _ {C A X K T : Type 0} (ranks : K → ℕ) (start : K → T) (next : K �
         container = λ is. admits r.home.promise s.words (state_after (next k) (start k) h) r.notes (let c = r.counted in omega arith) (r.container is);
       }
 
-  joins_kept : (idle : X → Type 0) (s : S) (v : V) (other : ℕ) (w : V) → w.role ≡ Pass → w.rank + 1 ≡ v.passes → idle w.note → Releases idle → Rule s
+  joins_kept : (idle : ℕ → X → Type 0) (s : S) (v : V) (other : ℕ) (w : V) → w.role ≡ Pass → w.rank + 1 ≡ v.passes → idle w.promise w.note → Releases idle → Rule s
       → get_elem? s.views 0 ≡ plain.some v → other ≢ 0 → get_elem? (set s.views 0 (takes v w)) other ≡ plain.some w
       → Rule (record s { views = set (set s.views 0 (takes v w)) other (spent rest) })
   joins_kept idle s v other w pass last rests releases r at apart there =
@@ -162,7 +162,7 @@ module _ {C A X K T : Type 0} (ranks : K → ℕ) (start : K → T) (next : K �
         legal = r.legal;
         named = r.named;
         since = r.since;
-        permitted = r.permitted;
+        permitted = subst (λ (z : ℕ). All (May z) r.late) (sym live.2) r.permitted;
         seen = within;
         begun = prefix_trans r.home.start r.home.seen seen r.begun first;
         own = r.own;
@@ -173,7 +173,7 @@ module _ {C A X K T : Type 0} (ranks : K → ℕ) (start : K → T) (next : K �
         live = λ q u is lives. ⊎_elim (λ (y : (q ≡ j) × (spent rest ≡ u)). absurd (spent_is_no_pass (ap (λ (z : V). z.role) y.1 ∙ lives)))
             (λ (y : (q ≢ j) × (get_elem? r.others q ≡ plain.some u)). let o = r.live q u y.1 lives in let l = o.0 in let below = l.1 in
             let not : u.rank ≢ w.rank = λ same. y.0 (r.apart q j u w y.1 at_others.2 lives pass same) in (
-              (l.0, omega arith, l.2, l.3, l.4, l.5, l.6),
+              (l.0, omega arith, l.2 ∙ sym live.2, l.3, l.4, l.5, l.6),
               ⊎_elim (λ old. old) (λ (z : (u.rank ≡ length fr.0) × (w.note ≡ u.note)). absurd (not (z.0 ∙ fr.2))) (snoc_cases fr.0 w.note u.note u.rank (subst (λ (m : List X). get_elem? m u.rank ≡ plain.some u.note) fr.1 o.1)),
             ))
             (at_set r.others j q (spent rest) u is);
@@ -185,7 +185,7 @@ module _ {C A X K T : Type 0} (ranks : K → ℕ) (start : K → T) (next : K �
         known = λ ws is. let none = (r.known ws is).1 in absurd (omega arith);
         counted = fr.2;
         alone = λ is. let none = r.alone is in absurd (omega arith);
-        container = λ is. releases r.home.promise s.words (state_after (next k) (start k) h) fr.0 w.note rests (subst (fits k r.home.promise s.words (state_after (next k) (start k) h)) fr.1 (r.container is));
+        container = λ is. releases w.promise s.words (state_after (next k) (start k) h) fr.0 w.note rests (subst (λ (z : ℕ × List X). fits k z.0 s.words (state_after (next k) (start k) h) z.1) (λ z. (sym live.2 z, fr.1 z)) (r.container is));
       }
     where
       came : (h : List E) (w home : V) → w.rank + 1 ≡ home.passes → IsLive k home h w
@@ -218,13 +218,13 @@ module _ {C A X K T : Type 0} (ranks : K → ℕ) (start : K → T) (next : K �
         under : (xs : List E) → All (May r.home.promise) xs → All (λ (e : E). e.rank < ranks k) xs
         under xs h = all_imply (May r.home.promise) (λ (e : E). e.rank < ranks k) (λ e m. m.1) xs h
 
-    home_mine : of v.rank v.seen ≡ v.mine
+    pub home_mine : of v.rank v.seen ≡ v.mine
     home_mine =
         let rank : v.rank ≡ ranks k = ap (λ (z : V). z.rank) alone ∙ r.is_home.2 in
         let begun : of v.rank v.start ≡ v.mine = subst (λ (z : V). of z.rank z.start ≡ z.mine) (sym alone) r.own in
         ap (λ (z : ℕ). of z v.seen) rank ∙ (own_since ∙ (ap (λ (z : ℕ). of z v.start) (sym rank) ∙ begun))
 
-    ended : Ends ranks start next permits k v
+    pub ended : Ends ranks start next permits k v
     ended = record {
       legal = subst (IsLegal (next k) (start k)) knows_all r.legal;
       named = subst (All (λ (e : E). e.rank ≤ ranks k)) knows_all r.named;
@@ -239,7 +239,7 @@ module _ {C A X K T : Type 0} (ranks : K → ℕ) (start : K → T) (next : K �
       );
     }
 
-    turned : (i c : ℕ) → Begins → Rule (segment.stepped s i (slice_index s.words i) 0 (begins c v))
+    turned : (i c : ℕ) → Renews v.promise c → Rule (segment.stepped s i (slice_index s.words i) 0 (begins c v))
     turned i c begin = let none = none_out in record {
       home = begins c r.home;
       others = r.others;
@@ -264,23 +264,24 @@ module _ {C A X K T : Type 0} (ranks : K → ℕ) (start : K → T) (next : K �
       counted = sym none;
       alone = r.alone;
       container = λ is. subst (λ (z : List ℕ). fits k c z (state_after (next k) (start k) r.history) []) (sym (set-get_or s.words i 0))
-          (begin r.home.promise c s.words (state_after (next k) (start k) r.history) (subst (fits k r.home.promise s.words (state_after (next k) (start k) r.history)) no_notes (r.container is)));
+          (subst (λ (z : V). Renews z.promise c) alone begin s.words (state_after (next k) (start k) r.history) (subst (fits k r.home.promise s.words (state_after (next k) (start k) r.history)) no_notes (r.container is)));
     }
 
-    went_on : (tick : Tick) (i n : ℕ) (did : List C)
-        → fits k v.promise (slice_set s.words i n) (state_after (next k) (start k) (v.seen ++ events (next k) v.rank (state_after (next k) (start k) v.seen) did)) []
+    -- a step that makes calls, after which the words are loose, or fit
+    pub went_on : (loose : Bool) (tick : Tick) (i n : ℕ) (did : List C)
+        → (loose ≡ false → fits k v.promise (slice_set s.words i n) (state_after (next k) (start k) (v.seen ++ events (next k) v.rank (state_after (next k) (start k) v.seen) did)) [])
         → IsLegal (next k) (start k) (v.seen ++ events (next k) v.rank (state_after (next k) (start k) v.seen) did)
-        → Rule (segment.stepped s i n 0 (gone_on tick v (events (next k) v.rank (state_after (next k) (start k) v.seen) did) (slice_set s.words i n)))
-    went_on tick i n did fit legal = let none = none_out in
+        → Rule (segment.stepped s i n 0 (record (gone_on tick v (events (next k) v.rank (state_after (next k) (start k) v.seen) did) (slice_set s.words i n)) { loose = loose }))
+    went_on loose tick i n did fit legal = let none = none_out in
         let es : List E = events (next k) v.rank (state_after (next k) (start k) v.seen) did in
         let h : List E = v.seen ++ es in
         let rank : v.rank ≡ ranks k = ap (λ (z : V). z.rank) alone ∙ r.is_home.2 in record {
-          home = gone_on tick v es (slice_set s.words i n);
+          home = record (gone_on tick v es (slice_set s.words i n)) { loose = loose };
           others = r.others;
           history = h;
           late = [];
           notes = [];
-          views = λ z. set (r.views z) 0 (gone_on tick v es (slice_set s.words i n));
+          views = λ z. set (r.views z) 0 (record (gone_on tick v es (slice_set s.words i n)) { loose = loose });
           is_home = (ap (λ (z : V). z.role) alone ∙ r.is_home.0, ap (λ (z : V). z.key) alone ∙ r.is_home.1, rank);
           legal = legal;
           named = All-append (λ (e : E). e.rank ≤ ranks k) v.seen es (subst (All (λ (e : E). e.rank ≤ ranks k)) knows_all r.named)
@@ -298,7 +299,7 @@ module _ {C A X K T : Type 0} (ranks : K → ℕ) (start : K → T) (next : K �
           known = λ ws is. (same_some (slice_set s.words i n) ws is, no_pass);
           counted = sym no_pass;
           alone = λ _. no_pass;
-          container = λ _. fit;
+          container = fit;
         }
 
   module _ (holds : K → S → Type 0) (from : (l : K) (s : S) → holds l s → Kept ranks start next permits fits l s) (back : (l : K) (s : S) → Kept ranks start next permits fits l s → holds l s) where
@@ -306,12 +307,12 @@ module _ {C A X K T : Type 0} (ranks : K → ℕ) (start : K → T) (next : K �
     splits seat v zero_is room none_back no_words whole admits = subst (λ (z : ℕ). segment.Splits (holds k) z v (cuts v) (cut rest v)) (sym zero_is)
         (λ s kept at. back k (record s { views = set s.views 0 (cuts v) ++ cut rest v ∷ [] }) (splits_kept s v room none_back no_words whole admits (from k s kept) at))
 
-    pub joins : (idle : X → Type 0) (seat : ℕ) (v : V) (other : ℕ) (w : V) → seat ≡ 0 → w.role ≡ Pass → w.rank + 1 ≡ v.passes → idle w.note → Releases idle → segment.Joins (holds k) seat v other w (takes v w) (spent rest)
+    pub joins : (idle : ℕ → X → Type 0) (seat : ℕ) (v : V) (other : ℕ) (w : V) → seat ≡ 0 → w.role ≡ Pass → w.rank + 1 ≡ v.passes → idle w.promise w.note → Releases idle → segment.Joins (holds k) seat v other w (takes v w) (spent rest)
     joins idle seat v other w zero_is pass last rests releases = subst (λ (z : ℕ). segment.Joins (holds k) z v other w (takes v w) (spent rest)) (sym zero_is)
         (λ s kept at apart there. back k (record s { views = set (set s.views 0 (takes v w)) other (spent rest) }) (joins_kept idle s v other w pass last rests releases (from k s kept) at apart there))
 
-    -- a home that no pass is out of begins a phase, and is told of the one before
-    pub turns : (seat : ℕ) (v : V) (i c : ℕ) → seat ≡ 0 → v.passes ≡ 0 → v.key ≡ Some k → Begins
+    -- a home that no pass is out of begins a phase or is at home again, and is told of the phase before
+    pub turns : (seat : ℕ) (v : V) (i c : ℕ) → seat ≡ 0 → v.passes ≡ 0 → v.key ≡ Some k → Renews v.promise c
         → segment.Steps (holds k) seat v i (λ n. n) (λ _ w. (w ≡ begins c v) × ((l : K) → v.key ≡ Some l → Ends ranks start next permits l v))
     turns seat v i c zero_is no_pass key begin = subst (λ (z : ℕ). segment.Steps (holds k) z v i (λ n. n) (λ _ w. (w ≡ begins c v) × ((l : K) → v.key ≡ Some l → Ends ranks start next permits l v))) (sym zero_is)
         (λ s kept at small. let r = from k s kept in (
@@ -320,28 +321,34 @@ module _ {C A X K T : Type 0} (ranks : K → ℕ) (start : K → T) (next : K �
           (refl, λ l is. subst (λ (z : K). Ends ranks start next permits z v) (same_some k l (sym key ∙ is)) (ended s v no_pass r at)),
         ))
 
+    -- from home a phase begins, and what the home has seen is legal
+    pub begins_phase : (seat : ℕ) (v : V) (i c : ℕ) → seat ≡ 0 → v.passes ≡ 0 → v.key ≡ Some k → v.promise ≡ 0 → Renews 0 c
+        → segment.Steps (holds k) seat v i (λ n. n) (λ _ w. (w ≡ begins c v) × ((l : K) → v.key ≡ Some l → IsLegal (next l) (start l) v.seen))
+    begins_phase seat v i c zero_is no_pass key at_home begin s kept at small = let m = turns seat v i c zero_is no_pass key (subst (λ (z : ℕ). Renews z c) (sym at_home) begin) s kept at small in (m.0, m.1, (m.2.0, λ l is. (m.2.1 l is).legal))
+
     -- a home that no pass is out of makes a step
-    pub home_moves : (seat : ℕ) (tick : Tick) (v : V) (i : ℕ) (f : ℕ → ℕ) (then : ℕ → T → List C → Type 0) → seat ≡ 0 → v.passes ≡ 0 → v.loose ≡ false → v.key ≡ Some k → Rests next permits fits k v.promise i f then
+    pub home_moves : (seat : ℕ) (tick : Tick) (v : V) (i : ℕ) (f : ℕ → ℕ) (then : ℕ → T → List C → Type 0) → seat ≡ 0 → v.passes ≡ 0 → v.loose ≡ false → v.key ≡ Some k → v.promise ≡ 0 → Rests next permits fits k v.words i f then
         → segment.Steps (holds k) seat v i f (λ n w. (l : K) → v.key ≡ Some l → HomeTold start next fits l tick v i f then n w)
-    home_moves seat tick v i f then zero_is no_pass whole key asked = subst (λ (z : ℕ). segment.Steps (holds k) z v i f (λ n w. (l : K) → v.key ≡ Some l → HomeTold start next fits l tick v i f then n w)) (sym zero_is)
+    home_moves seat tick v i f then zero_is no_pass whole key at_home asked = subst (λ (z : ℕ). segment.Steps (holds k) z v i f (λ n w. (l : K) → v.key ≡ Some l → HomeTold start next fits l tick v i f then n w)) (sym zero_is)
         (λ s kept at small.
         let r : Rule s = from k s kept in
         let t : T = state_after (next k) (start k) v.seen in
         let e : v ≡ r.home = alone s v no_pass r at in
-        let fit : fits k v.promise s.words t [] = subst (λ (z : ℕ × List E × List X). fits k z.0 s.words (state_after (next k) (start k) z.1) z.2) (λ z. (ap (λ (y : V). y.promise) (sym e) z, knows_all s v no_pass r at z, no_notes s v no_pass r at z)) (r.container (ap (λ (y : V). y.loose) (sym e) ∙ whole)) in
-        let m = asked s.words t fit small in
+        let known : (ws : List ℕ) → v.words ≡ Some ws → s.words ≡ ws = λ ws e'. (r.known ws (ap (λ (y : V). y.words) (sym e) ∙ e')).0 in
+        let fit : fits k 0 s.words t [] = subst (λ (z : ℕ × List E × List X). fits k z.0 s.words (state_after (next k) (start k) z.1) z.2) (λ z. ((ap (λ (y : V). y.promise) (sym e) ∙ at_home) z, knows_all s v no_pass r at z, no_notes s v no_pass r at z)) (r.container (ap (λ (y : V). y.loose) (sym e) ∙ whole)) in
+        let m = asked s.words t known fit small in
         let es : List E = events (next k) v.rank t m.0 in
         let after_words : List ℕ = slice_set s.words i (f (slice_index s.words i)) in
         let legal : IsLegal (next k) (start k) (v.seen ++ es) = legal-append (next k) (start k) v.seen es (subst (IsLegal (next k) (start k)) (knows_all s v no_pass r at) r.legal) (legal_events (next k) v.rank t m.0) in
         let after : state_after (next k) (start k) (v.seen ++ es) ≡ state_by (next k) t m.0 = after-append (next k) (start k) v.seen es ∙ after_events (next k) v.rank t m.0 in (
           gone_on tick v es after_words,
-          back k (segment.stepped s i (f (slice_index s.words i)) 0 (gone_on tick v es after_words)) (went_on s v no_pass r at tick i (f (slice_index s.words i)) m.0
-              (subst (λ (z : T). fits k v.promise (slice_set s.words i (f (slice_index s.words i))) z []) (sym after) m.1) legal),
-          λ l is. subst (λ (z : K). HomeTold start next fits z tick v i f then (slice_index s.words i) (gone_on tick v es after_words)) (same_some k l (sym key ∙ is)) (record { words = s.words; known = λ ws e'. (r.known ws (ap (λ (y : V). y.words) (sym e) ∙ e')).0; fit = fit; found = refl; did = m.0; fact = m.2; after = refl; legal = legal }),
+          back k (segment.stepped s i (f (slice_index s.words i)) 0 (gone_on tick v es after_words)) (subst (λ (b : Bool). Rule (segment.stepped s i (f (slice_index s.words i)) 0 (record (gone_on tick v es after_words) { loose = b }))) (sym whole) (went_on s v no_pass r at false tick i (f (slice_index s.words i)) m.0
+              (λ _. subst (λ (z : ℕ × T). fits k z.0 (slice_set s.words i (f (slice_index s.words i))) z.1 []) (λ z. (sym at_home z, sym after z)) m.1) legal)),
+          λ l is. subst (λ (z : K). HomeTold start next fits z tick v i f then (slice_index s.words i) (gone_on tick v es after_words)) (same_some k l (sym key ∙ is)) (record { words = s.words; known = known; fit = fit; found = refl; did = m.0; fact = m.2; after = refl; legal = legal }),
         ))
 
-    pub home_puts : (seat : ℕ) (tick : Tick) (v : V) (i new : ℕ) (then : ℕ → T → List C → Type 0) → seat ≡ 0 → v.passes ≡ 0 → v.loose ≡ false → v.key ≡ Some k → Rests next permits fits k v.promise i (λ _. new) (λ _. then new)
+    pub home_puts : (seat : ℕ) (tick : Tick) (v : V) (i new : ℕ) (then : ℕ → T → List C → Type 0) → seat ≡ 0 → v.passes ≡ 0 → v.loose ≡ false → v.key ≡ Some k → v.promise ≡ 0 → Rests next permits fits k v.words i (λ _. new) (λ _. then new)
         → segment.Steps (holds k) seat v i (λ _. new) (λ _ w. (l : K) → v.key ≡ Some l → HomeTold start next fits l tick v i (λ _. new) then new w)
-    home_puts seat tick v i new then zero_is no_pass whole key asked s kept at small =
-        let m = home_moves seat tick v i (λ _. new) (λ _. then new) zero_is no_pass whole key asked s kept at small in
+    home_puts seat tick v i new then zero_is no_pass whole key at_home asked s kept at small =
+        let m = home_moves seat tick v i (λ _. new) (λ _. then new) zero_is no_pass whole key at_home asked s kept at small in
         (m.0, m.1, λ l is. let told = m.2 l is in record { words = told.words; known = told.known; fit = told.fit; found = refl; did = told.did; fact = told.fact; after = told.after; legal = told.legal })

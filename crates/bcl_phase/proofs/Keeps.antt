@@ -1,13 +1,13 @@
 -- Each step of a pass keeps the rule, whatever the container.
-use Rattle.std.proofs.Common.{◌≡◌, ◌≢◌, ℕ, zero, suc, ◌+◌, ◌≤◌, List, [], ◌∷◌, ◌++◌, slice_index, slice_set, set, refl, sym, ap, ◌∙◌, subst, ⊎_elim, arith, length-set, Some, Bool, true, false}
+use Rattle.std.proofs.Common.{◌≡◌, ◌≢◌, ℕ, zero, suc, ◌+◌, ◌≤◌, List, [], ◌∷◌, ◌++◌, slice_index, slice_set, set, refl, sym, ap, ◌∙◌, subst, ⊎_elim, arith, length, length-append, length-set, Some, Bool, true, false, eqb, cond, Result, Ok, Err, IfOk, IfErr}
 use Rattle.std.specs.List.{All}
 use Rattle.std.proofs.lemmas.List.Elements.{All-nil, All-append}
 use Rattle.std.proofs.lemmas.Option.{none-some}
-use Rattle.std.proofs.lemmas.Bool.{false≢true}
+use Rattle.std.proofs.lemmas.Bool.{false≢true, eq-eqb, ne_eqb, cond-true, cond-false}
 use mathlib.Core.Option as plain
 use mathlib.Core.Option.{some-injective, some-ne-none}
 use mathlib.Core.List.{IsPrefix, append-nil, append_assoc, append_cancel_left}
-use base.Growing.{prefix_trans}
+use base.Growing.{prefix_refl, prefix_trans}
 use lib.ListN.{get_elem?}
 use Rattle.atomic_table.specs.Table.{State}
 use Rattle.atomic_table.proofs.Lists.{at_set, set_else}
@@ -17,9 +17,9 @@ use Rattle.bcl_segment.specs.Steps as segment
 use Rattle.bcl_phase.specs.declared.view.View.{View}
 use Rattle.bcl_phase.specs.declared.view.Role.{Role}
 use Rattle.bcl_phase.specs.declared.view.Role.TheVariants.{Home, Pass, Spent}
-use Rattle.bcl_phase.specs.Views.{Tick, opened, moved}
+use Rattle.bcl_phase.specs.Views.{Tick, opened, moved, one_more, unless_won}
 use Rattle.bcl_phase.specs.Rule.{IsLive, IsPermitted, Kept, Moves}
-use Rattle.bcl_phase.specs.Told.{Took, Told}
+use Rattle.bcl_phase.specs.Told.{Took, Told, tried}
 use Rattle.bcl_phase.proofs.Prefixes.{prefix_more, all_front, of-append, of_seen, seen_later, seen_within, since_then, after-append, legal-append, legal_prefix, legal_events, after_events, own_events, other_events, all_events}
 
 abbrev is_pass : Role → Type 0
@@ -43,6 +43,21 @@ set_at (x ∷ xs) (suc i) a b e = set_at xs i a b e
 
 pub same_some : {K : Type 0} (k l : K) → Some k ≡ Some l → k ≡ l
 same_some k l e = cc
+
+no_shorter : {Y : Type 0} (old new : List Y) → IsPrefix old new → length old ≤ length new
+no_shorter old new more = let e : length new ≡ length old + length more.0 = ap length (sym more.1) ∙ length-append old more.0 in omega arith
+
+-- an exchange finds no word where it is won
+pub found_unless : (old : ℕ) (found : List (ℕ × ℕ)) (word n : ℕ) → IsPrefix found (unless_won old found word n)
+found_unless old found word n = either (eqb n old)
+  where
+    either : (b : Bool) → IsPrefix found (cond b found (one_more found word n))
+    either true = prefix_refl found
+    either false = ((word, n) ∷ [], refl)
+
+pub won_or_lost : (old : ℕ) (found : List (ℕ × ℕ)) (word : ℕ) (r : Result ℕ ℕ) (after : List (ℕ × ℕ)) → IfOk r (λ n. n ≡ old) → IfErr r (λ n. n ≢ old) → after ≡ unless_won old found word (segment.found_by r) → after ≡ tried found word r
+won_or_lost old found word (Ok n) after won lost e = e ∙ cond-true (eqb n old) found (one_more found word n) (eq-eqb n old won)
+won_or_lost old found word (Err n) after won lost e = e ∙ cond-false (eqb n old) found (one_more found word n) (ne_eqb n old lost)
 
 module _ {C A X K T : Type 0} (ranks : K → ℕ) (start : K → T) (next : K → T → C → A × T) (permits : K → ℕ → ℕ → C → Type 0) (fits : K → ℕ → List ℕ → T → List X → Type 0) where
   abbrev V : Type 0
@@ -105,14 +120,14 @@ module _ {C A X K T : Type 0} (ranks : K → ℕ) (start : K → T) (next : K �
     own_moved h mine r t did e = of-append r h (events (next k) r t did) ∙ (λ i. e i ++ own_events (next k) r t did i)
 
     -- what a step tells: of any key that the view before names
-    abbrev pub StepTells : Tick → V → (ℕ → T → List C → X → Type 0) → ℕ → V → Type 0
-    StepTells tick v then n w = (l : K) → v.key ≡ Some l → Took ranks start next permits l tick v w × Told start next l v then n w
+    abbrev pub StepTells : Tick → V → (ℕ → List (ℕ × ℕ)) → (ℕ → T → List C → X → Type 0) → ℕ → V → Type 0
+    StepTells tick v found then n w = (l : K) → v.key ≡ Some l → Took ranks start next permits l tick v w × Told start next l v then n w × (w.found ≡ found n)
 
     module _ (holds : K → S → Type 0) (from : (l : K) (s : S) → holds l s → Rule l s) (back : (l : K) (s : S) → Rule l s → holds l s) where
       -- what a container shows of one step of a pass is all that the step needs
-      pub moves : (seat : ℕ) (tick : Tick) (v : V) (i : ℕ) (f : ℕ → ℕ) (then : ℕ → T → List C → X → Type 0) → v.role ≡ Pass → v.key ≡ Some k
-          → Moves next permits fits k v.promise v.rank v.note i f then → segment.Steps (holds k) seat v i f (StepTells tick v then)
-      moves seat tick v i f then role key asked s kept at small =
+      pub moves : (seat : ℕ) (tick : Tick) (v : V) (i : ℕ) (f : ℕ → ℕ) (found : ℕ → List (ℕ × ℕ)) (then : ℕ → T → List C → X → Type 0) → v.role ≡ Pass → v.key ≡ Some k → ((n : ℕ) → IsPrefix v.found (found n))
+          → Moves next permits fits k v.promise v.rank v.note i f then → segment.Steps (holds k) seat v i f (StepTells tick v found then)
+      moves seat tick v i f found then role key longer asked s kept at small =
           let r : Rule k s = from k s kept in
           let at' : get_elem? (r.home ∷ r.others) seat ≡ plain.some v = subst (λ (l : List V). get_elem? l seat ≡ plain.some v) r.views at in
           let b = behind r.home r.others seat v r.is_home.0 role at' in
@@ -127,7 +142,7 @@ module _ {C A X K T : Type 0} (ranks : K → ℕ) (start : K → T) (next : K �
           let x : X = m.1 in
           let es : List E = events (next k) v.rank t did in
           let h' : List E = h ++ es in
-          let w : V = moved tick v h es x in
+          let w : V = moved tick v h es x (found (slice_index s.words i)) in
           let legal' : IsLegal (next k) (start k) h' = legal-append (next k) (start k) h es r.legal (legal_events (next k) v.rank t did) in
           let all' : of v.rank h' ≡ v.mine ++ es = own_moved h v.mine v.rank t did live.5 in
           let own' : of v.rank w.seen ≡ w.mine = of_seen v.rank v.seen h v.mine es live.5 live.6 (own_events (next k) v.rank t did) in
@@ -176,7 +191,7 @@ module _ {C A X K T : Type 0} (ranks : K → ℕ) (start : K → T) (next : K �
               container = λ _. subst (λ (z : ℕ × T). fits k z.0 (slice_set s.words i (f (slice_index s.words i))) z.1 notes')
                   (λ z. (live.2 z, sym (after-append (next k) (start k) h es ∙ after_events (next k) v.rank t did) z)) m.3;
             }),
-            λ l is. subst (λ (z : K). Took ranks start next permits z tick v w × Told start next z v then (slice_index s.words i) w) (same_some k l (sym key ∙ is)) (
+            λ l is. subst (λ (z : K). Took ranks start next permits z tick v w × Told start next z v then (slice_index s.words i) w × (w.found ≡ found (slice_index s.words i))) (same_some k l (sym key ∙ is)) (
               record {
                 same_role = refl;
                 same_key = refl;
@@ -185,6 +200,7 @@ module _ {C A X K T : Type 0} (ranks : K → ℕ) (start : K → T) (next : K �
                 gets_rise = refl;
                 puts_rise = refl;
                 atomics_rise = refl;
+                found_rises = no_shorter v.found (found (slice_index s.words i)) (longer (slice_index s.words i));
                 legal = legal_prefix (next k) (start k) w.seen h' within legal';
                 own = own';
                 late = new.0;
@@ -192,6 +208,7 @@ module _ {C A X K T : Type 0} (ranks : K → ℕ) (start : K → T) (next : K �
                 permitted = subst (λ (z : ℕ). All (May k z) new.0) (sym live.2) new.2;
               },
               record { history = h; did = did; known = live.3; fact = m.4; seen = refl; mine = refl },
+              refl,
             ),
           )
         where
@@ -204,7 +221,7 @@ module _ {C A X K T : Type 0} (ranks : K → ℕ) (start : K → T) (next : K �
 
       -- the same of a put, which finds nothing and tells of the number put
       pub puts : (seat : ℕ) (tick : Tick) (v : V) (i new : ℕ) (then : ℕ → T → List C → X → Type 0) → v.role ≡ Pass → v.key ≡ Some k
-          → Moves next permits fits k v.promise v.rank v.note i (λ _. new) (λ _. then new) → segment.Steps (holds k) seat v i (λ _. new) (λ _. StepTells tick v then new)
+          → Moves next permits fits k v.promise v.rank v.note i (λ _. new) (λ _. then new) → segment.Steps (holds k) seat v i (λ _. new) (λ _. StepTells tick v (λ _. v.found) then new)
       puts seat tick v i new then role key asked s kept at small =
-          let m = moves seat tick v i (λ _. new) (λ _. then new) role key asked s kept at small in
-          (m.0, m.1, λ l is. let both = m.2 l is in let told = both.1 in (both.0, record { history = told.history; did = told.did; known = told.known; fact = told.fact; seen = told.seen; mine = told.mine }))
+          let m = moves seat tick v i (λ _. new) (λ _. v.found) (λ _. then new) role key (λ _. prefix_refl v.found) asked s kept at small in
+          (m.0, m.1, λ l is. let both = m.2 l is in let told = both.1 in (both.0, record { history = told.history; did = told.did; known = told.known; fact = told.fact; seen = told.seen; mine = told.mine }, both.2))

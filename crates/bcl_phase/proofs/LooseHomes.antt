@@ -1,21 +1,27 @@
 -- A home that no pass is out of may learn its words, and forget them.
 -- It may let them be loose, too: a step then owes nothing, until the words are shown to fit again.
-use Rattle.std.proofs.Common.{◌≡◌, ℕ, List, [], slice_index, slice_set, set, refl, sym, ap, ◌∙◌, subst, arith, Some, None, Bool, true, false}
+use Rattle.std.proofs.Common.{◌≡◌, ℕ, List, [], ◌++◌, slice_index, slice_set, set, refl, sym, ap, ◌∙◌, subst, arith, Some, None, Bool, true, false}
 use Rattle.std.specs.Prelude.{Option}
 use Rattle.std.proofs.lemmas.Bool.{false≢true}
 use Rattle.std.proofs.lemmas.Option.{none-some}
 use mathlib.Core.Option as plain
+use mathlib.Core.Option.{some-ne-none}
 use lib.ListN.{get_elem?}
 use lib.Seq.{set-get_or}
+use mathlib.Core.List.{append-nil}
+use base.Growing.{prefix_refl}
+use Rattle.std.proofs.lemmas.List.Elements.{All-nil}
 use Rattle.atomic_table.specs.Table.{State}
 use Rattle.bcl_event.specs.declared.event.Event.{Event}
-use Rattle.bcl_event.specs.History.{state_after}
+use Rattle.bcl_event.specs.History.{of, state_after, state_by, events, IsLegal}
 use Rattle.bcl_segment.specs.Steps as segment
 use Rattle.bcl_phase.specs.declared.view.View.{View}
-use Rattle.bcl_phase.specs.Views.{Tick, get, put, knowing, words_of, loosened, loose_after, mended}
-use Rattle.bcl_phase.specs.Rule.{Kept}
+use Rattle.bcl_phase.specs.Views.{Tick, get, put, begins, knowing, words_of, loosened, loose_after, mended, gone_on}
+use Rattle.bcl_phase.specs.Rule.{IsPermitted, Kept, Pairs}
+use Rattle.bcl_phase.specs.Told.{Ends}
 use Rattle.bcl_phase.proofs.Keeps.{same_some}
-use Rattle.bcl_phase.proofs.Homes.{alone, none_out, knows_all, no_notes}
+use Rattle.bcl_phase.proofs.Prefixes.{legal-append, legal_events, after-append, after_events}
+use Rattle.bcl_phase.proofs.Homes.{alone, none_out, knows_all, no_notes, home_mine, ended, went_on}
 
 module _ {C A X K T : Type 0} (ranks : K → ℕ) (start : K → T) (next : K → T → C → A × T) (permits : K → ℕ → ℕ → C → Type 0) (fits : K → ℕ → List ℕ → T → List X → Type 0) (rest : X) (k : K) where
   abbrev V : Type 0
@@ -81,6 +87,34 @@ module _ {C A X K T : Type 0} (ranks : K → ℕ) (start : K → T) (next : K �
       counted = sym no;
       alone = λ _. no;
       container = λ is. subst (λ (z : ℕ × List E). fits k z.0 after (state_after (next k) (start k) z.1) []) (λ z. (ap (λ (y : V). y.promise) home z, sym all_seen z)) (fit is);
+    }
+
+    -- the phase is over, and the words are loose
+    closed_loose : (i n : ℕ) → Rule (segment.stepped s i n 0 (loosened (slice_set s.words i n) (begins 0 v)))
+    closed_loose i n = let after : List ℕ = slice_set s.words i n in let no : r.home.passes ≡ 0 = none in record {
+      home = loosened after (begins 0 r.home);
+      others = r.others;
+      history = r.history;
+      late = [];
+      notes = [];
+      views = λ z. set (r.views z) 0 (loosened after (begins 0 (home z)));
+      is_home = r.is_home;
+      legal = r.legal;
+      named = r.named;
+      since = all_seen ∙ (ap (λ (z : V). z.seen) home ∙ sym (append-nil r.home.seen));
+      permitted = All-nil (IsPermitted ranks permits k 0);
+      seen = r.seen;
+      begun = prefix_refl r.home.seen;
+      own = subst (λ (z : V). of z.rank z.seen ≡ z.mine) home (home_mine ranks start next permits fits rest k s v no_pass r at);
+      gone = r.gone;
+      returned = λ q p is. absurd (some-ne-none p (sym is));
+      live = λ q u is lives. let below = (r.live q u is lives).0.1 in absurd (omega arith);
+      apart = r.apart;
+      few = r.few;
+      known = λ ws is. (same_some after ws is, no);
+      counted = sym no;
+      alone = λ _. no;
+      container = λ is. absurd (false≢true (sym is));
     }
 
   module _ (holds : K → S → Type 0) (from : (l : K) (s : S) → holds l s → Kept ranks start next permits fits l s) (back : (l : K) (s : S) → Kept ranks start next permits fits l s → holds l s) where
@@ -169,3 +203,50 @@ module _ {C A X K T : Type 0} (ranks : K → ℕ) (start : K → T) (next : K �
           back k (segment.stepped s i n 0 (mended (slice_set s.words i n) v)) (eased s v no_pass r at i n (Some (slice_set s.words i n)) false v.gets v.puts v.atomics (same_some (slice_set s.words i n)) (λ _. subst (Fit v) (sym same) fit)),
           (λ z. mended (same z) v),
         ))
+
+    -- what a home is told whose passes came back, as its words become loose
+    abbrev ClosedLoose : V → V → Type 0
+    ClosedLoose v w = (ws : List ℕ) × (w ≡ loosened ws (begins 0 v)) × ((l : K) → v.key ≡ Some l → Ends ranks start next permits l v × fits l v.promise ws (state_after (next l) (start l) v.seen) [])
+
+    pub closes_loose : (seat : ℕ) (v : V) (i : ℕ) → seat ≡ 0 → v.passes ≡ 0 → v.loose ≡ false → v.key ≡ Some k → segment.Steps (holds k) seat v i (λ n. n) (λ _ w. ClosedLoose v w)
+    closes_loose seat v i zero_is no_pass whole key = subst (λ (z : ℕ). segment.Steps (holds k) z v i (λ n. n) (λ _ w. ClosedLoose v w)) (sym zero_is)
+        (λ s kept at small. let r : Rule s = from k s kept in let n : ℕ = slice_index s.words i in let after : List ℕ = slice_set s.words i n in (
+          loosened after (begins 0 v),
+          back k (segment.stepped s i n 0 (loosened after (begins 0 v))) (closed_loose s v no_pass r at i n),
+          (
+            after,
+            refl,
+            λ l is. subst (λ (z : K × List ℕ). Ends ranks start next permits z.0 v × fits z.0 v.promise z.1 (state_after (next z.0) (start z.0) v.seen) []) (λ z. (same_some k l (sym key ∙ is) z, sym (set-get_or s.words i 0) z))
+                (ended ranks start next permits fits rest k s v no_pass r at, fit_now s v no_pass r at whole),
+          ),
+        ))
+
+    -- what a home is told of a put by which its words fit again, and which makes calls
+    abbrev pub MendTold : (T → List C → Type 0) → V → ℕ → ℕ → V → Type 0
+    MendTold F v i n w = (l : K) → v.key ≡ Some l → (did : List C) × F (state_after (next l) (start l) v.seen) did × (w ≡ record (gone_on put v (events (next l) v.rank (state_after (next l) (start l) v.seen) did) (slice_set (words_of v) i n)) { loose = false }) × IsLegal (next l) (start l) w.seen
+
+    pub mend_calls : (seat : ℕ) (v : V) (i n : ℕ) (F : T → List C → Type 0) → seat ≡ 0 → v.passes ≡ 0 → v.key ≡ Some k → v.words ≡ Some (words_of v)
+        → (did : List C) → fits k v.promise (slice_set (words_of v) i n) (state_by (next k) (state_after (next k) (start k) v.seen) did) [] → F (state_after (next k) (start k) v.seen) did
+        → segment.Steps (holds k) seat v i (λ _. n) (λ _ w. MendTold F v i n w)
+    mend_calls seat v i n F zero_is no_pass key known did fit fact = subst (λ (z : ℕ). segment.Steps (holds k) z v i (λ _. n) (λ _ w. MendTold F v i n w)) (sym zero_is)
+        (λ s kept at small. let r : Rule s = from k s kept in let same : s.words ≡ words_of v = words_are s v no_pass r at (words_of v) known in
+        let t : T = state_after (next k) (start k) v.seen in
+        let es : List E = events (next k) v.rank t did in
+        let legal : IsLegal (next k) (start k) (v.seen ++ es) = legal-append (next k) (start k) v.seen es (subst (IsLegal (next k) (start k)) (knows_all ranks start next permits fits rest k s v no_pass r at) r.legal) (legal_events (next k) v.rank t did) in
+        let after : state_after (next k) (start k) (v.seen ++ es) ≡ state_by (next k) t did = after-append (next k) (start k) v.seen es ∙ after_events (next k) v.rank t did in
+        let w : V = record (gone_on put v es (slice_set s.words i n)) { loose = false } in (
+          w,
+          back k (segment.stepped s i n 0 w) (went_on ranks start next permits fits rest k s v no_pass r at false put i n did
+              (λ _. subst (λ (z : List ℕ × T). fits k v.promise (slice_set z.0 i n) z.1 []) (λ z. (sym same z, sym after z)) fit) legal),
+          λ l is. subst (λ (z : K). (d : List C) × F (state_after (next z) (start z) v.seen) d × (w ≡ record (gone_on put v (events (next z) v.rank (state_after (next z) (start z) v.seen) d) (slice_set (words_of v) i n)) { loose = false }) × IsLegal (next z) (start z) w.seen)
+              (same_some k l (sym key ∙ is)) (did, fact, (λ z. record (gone_on put v es (slice_set (same z) i n)) { loose = false }), legal),
+        ))
+
+    -- the two puts of a pair: the second makes the calls
+    pub pair_puts : (seat : ℕ) (v u : V) (i n j m : ℕ) (ws : List ℕ) (F : T → List C → Type 0) → seat ≡ 0 → v.passes ≡ 0 → v.key ≡ Some k → u ≡ loose_after put (slice_set ws i n) (loosened ws v) → ((vs : List ℕ) → v.words ≡ Some vs → ws ≡ vs) → v.promise ≡ 0 → Fit v ws → Pairs next permits fits k v.words i n j m F
+        → segment.Steps (holds k) seat u j (λ _. m) (λ _ w. MendTold F u j m w)
+    pair_puts seat v u i n j m ws F zero_is no_pass key is known at_home fit pairs =
+        let t : T = state_after (next k) (start k) v.seen in
+        let b = pairs ws t known (subst (λ (z : ℕ). fits k z ws t []) at_home fit) in
+        subst (λ (z : V). segment.Steps (holds k) seat z j (λ _. m) (λ _ w. MendTold F z j m w)) (sym is)
+        (mend_calls seat (loose_after put (slice_set ws i n) (loosened ws v)) j m F zero_is no_pass key refl b.0 (subst (λ (z : ℕ). fits k z (slice_set (slice_set ws i n) j m) (state_by (next k) t b.0) []) (sym at_home) b.1) b.2)

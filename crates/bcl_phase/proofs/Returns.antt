@@ -1,15 +1,21 @@
 -- What a loop over passes has taken back, and what it has dealt.
-use Rattle.std.proofs.Common.{◌≡◌, ℕ, ◌+◌, List, [], ◌∷◌, ◌++◌, map, length, refl, sym, ap, ◌∙◌, subst, ⊎_elim, arith, Some, Result, Ok, Err, IfOk, IfErr}
+use Rattle.std.proofs.Common.{◌≡◌, ℕ, ◌+◌, List, [], ◌∷◌, ◌++◌, map, length, refl, sym, ap, ◌∙◌, subst, ⊎_elim, arith, Bool, Option, Some, Result, Ok, Err, IfOk, IfErr}
 use mathlib.Core.Option.{some}
 use mathlib.Core.List.{IsPrefix, map-append, append_assoc, append-nil}
 use lib.ListN.{get_elem?}
 use Rattle.atomic_table.proofs.Lists.{at_longer, at_last, at_map}
+use Rattle.std.proofs.lemmas.Option.{none-some}
+use Rattle.bcl_segment.specs.declared.layout.Layout.{Layout}
 use Rattle.bcl_event.specs.declared.event.Event.{Event}
+use Rattle.bcl_segment.specs.declared.seat.Seat.{Seat}
+use Rattle.bcl_segment.specs.Parts.{view_of}
+use Rattle.bcl_phase.specs.Seats.{IsPassSeat, IsLaid, IsLaidBy}
+use Rattle.bcl_phase.proofs.Keeps.{same_some}
 use Rattle.bcl_phase.specs.declared.view.View.{View}
-use Rattle.bcl_phase.specs.Views.{cut, cuts}
+use Rattle.bcl_phase.specs.Views.{Tick, cut, cuts}
 use Rattle.bcl_event.specs.History.{of}
 use Rattle.bcl_phase.specs.Rule.{IsBack}
-use Rattle.bcl_phase.specs.Told.{Ends}
+use Rattle.bcl_phase.specs.Told.{Took, Ends}
 use Rattle.bcl_phase.specs.Phases.{begun, Returned, Ended}
 use Rattle.bcl_phase.proofs.Homes.{snoc_cases}
 
@@ -29,6 +35,10 @@ module _ {C A X K : Type 0} where
 
   pub cut_is : (v0 v : View C A X K) (rest : X) (promise : ℕ) (key : K) (n : ℕ) → v0.promise ≡ promise → v0.key ≡ Some key → v ≡ record v0 { passes = n } → cut rest v ≡ begun rest promise key v0.seen n
   cut_is v0 v rest promise key n c k e = ap (cut rest) e ∙ (λ i. record (begun rest promise key v0.seen n) { promise = c i; key = k i })
+
+  -- a pass knows its own rank's events from the first
+  pub own_cut : (rest : X) (v w : View C A X K) → w ≡ cut rest v → of w.rank w.seen ≡ w.mine
+  own_cut rest v w e = subst (λ (z : View C A X K). of z.rank z.seen ≡ z.mine) (sym e) refl
 
 module _ {Y : Type 0} (Q : ℕ → Y → Type 0) where
   pub placed : (l m : List Y) (y : Y) → m ≡ l ++ y ∷ [] → ((i : ℕ) (p : Y) → get_elem? l i ≡ some p → Q i p) → Q (length l) y → (i : ℕ) (p : Y) → get_elem? m i ≡ some p → Q i p
@@ -65,9 +75,9 @@ module _ {C A X K : Type 0} where
   }
 
 module _ {C A X K T : Type 0} (ranks : K → ℕ) (start : K → T) (next : K → T → C → A × T) (permits : K → ℕ → ℕ → C → Type 0) where
-  pub ended_of : (k : K) (v : View C A X K) (promise : ℕ) (before history : List (Event C A)) → Ends ranks start next permits k v → v.promise ≡ promise → v.start ≡ before → history ≡ v.seen
-      → Ended ranks start next permits k promise before history
-  ended_of k v promise before history e same begun seen = subst (λ (z : ℕ × List (Event C A) × List (Event C A)). Ended ranks start next permits k z.0 z.1 z.2) (λ i. (same i, begun i, sym seen i)) now
+  pub ended_of : (k key : K) (v : View C A X K) (promise : ℕ) (before history : List (Event C A)) → Ends ranks start next permits k v → key ≡ k → v.promise ≡ promise → v.start ≡ before → history ≡ v.seen
+      → Ended ranks start next permits key promise before history
+  ended_of k key v promise before history e at same begun seen = subst (λ (z : K × ℕ × List (Event C A) × List (Event C A)). Ended ranks start next permits z.0 z.1 z.2 z.3) (λ i. (sym at i, same i, begun i, sym seen i)) now
     where
       now : Ended ranks start next permits k v.promise v.start v.seen
       now = record { legal = e.legal; named = e.named; late = e.late; since = e.since; permitted = e.permitted; home = e.own }
@@ -85,3 +95,26 @@ module _ {Y F : Type 0} where
   pub if_err : (r : Result Y F) (P Q : F → Type 0) → IfErr r P → ((f : F) → P f → Q f) → IfErr r Q
   if_err (Ok y) P Q p goes = tt
   if_err (Err f) P Q p goes = goes f p
+
+-- a layout is the one that a key says
+module _ {K : Type 0} (sound_of : K → Bool) (heads_of : K → ℕ) (layout_of : K → Layout) where
+  pub laid_as : (key : Option K) (k : K) (layout : Layout) → key ≡ Some k → IsLaid (sound_of k) (heads_of k) (layout_of k) (heads_of k) layout → IsLaidBy sound_of heads_of layout_of key layout
+  laid_as key k layout is laid = record { some = λ none. none-some k (sym none ∙ is); laid = λ l at. subst (λ (z : K). IsLaid (sound_of z) (heads_of z) (layout_of z) (heads_of z) layout) (same_some k l (sym is ∙ at)) laid }
+
+  pub laid_again : (old new : Option K) (layout : Layout) → new ≡ old → IsLaidBy sound_of heads_of layout_of old layout → IsLaidBy sound_of heads_of layout_of new layout
+  laid_again old new layout same laid = subst (λ (z : Option K). IsLaidBy sound_of heads_of layout_of z layout) (sym same) laid
+
+  pub laid_here : (k : K) (heads : ℕ) (layout layout' : Layout) → IsLaid (sound_of k) (heads_of k) (layout_of k) heads layout → layout' ≡ layout → IsLaid (sound_of k) (heads_of k) (layout_of k) (heads_of k) layout'
+  laid_here k heads layout layout' laid same = subst (λ (z : ℕ × Layout). IsLaid (sound_of k) (heads_of k) (layout_of k) z.0 z.1) (λ i. (laid.as_heads i, sym same i)) laid
+
+-- ---- what any step leaves of the pass that makes it
+
+module _ {R C A X K T : Type 0} {ranks : K → ℕ} {start : K → T} {next : K → T → C → A × T} {permits : K → ℕ → ℕ → C → Type 0} (sound_of : K → Bool) (heads_of : K → ℕ) (layout_of : K → Layout) where
+  pub stepped : (promise rank : ℕ) (layout : Layout) (k : K) (tick : Tick) (old new : Seat R (View C A X K) K) → Took ranks start next permits k tick (view_of old) (view_of new)
+      → IsPassSeat promise rank old → IsLaidBy sound_of heads_of layout_of (view_of old).key layout → (view_of old).key ≡ Some k
+      → IsPassSeat promise rank new × IsLaidBy sound_of heads_of layout_of (view_of new).key layout × ((view_of new).key ≡ Some k)
+  stepped promise rank layout k tick old new took pass laid key = (
+    (took.same_role ∙ pass.0, took.same_promise ∙ pass.1, took.same_rank ∙ pass.2),
+    laid_again sound_of heads_of layout_of (view_of old).key (view_of new).key layout took.same_key laid,
+    took.same_key ∙ key,
+  )

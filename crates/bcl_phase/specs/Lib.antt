@@ -1,8 +1,10 @@
 pub mod Views
 pub mod Rule
 pub mod Told
+pub mod Found
 pub mod Seats
 pub mod Phases
 pub mod Stands
 pub mod Flights
 pub mod Parts
+pub mod Deals

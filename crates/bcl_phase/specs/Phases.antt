@@ -10,9 +10,9 @@ use Rattle.bcl_phase.specs.declared.view.Role.TheVariants.{Pass}
 use Rattle.bcl_phase.specs.Rule.{IsPermitted}
 
 module _ {C A X K : Type 0} where
-  -- the pass of a rank as a phase begins: it has seen the history, no step is counted, and no call is in flight
+  -- the pass of a rank as a phase begins: it has seen the history, no step is counted, no word is found, and no call is in flight
   abbrev pub begun : X → ℕ → K → List (Event C A) → ℕ → View C A X K
-  begun rest promise key history rank = record { role = Pass; key = Some key; rank = rank; promise = promise; seen = history; mine = of rank history; gets = 0; puts = 0; atomics = 0; note = rest; passes = 0; start = []; back = []; words = None; loose = false }
+  begun rest promise key history rank = record { role = Pass; key = Some key; rank = rank; promise = promise; seen = history; mine = of rank history; gets = 0; puts = 0; atomics = 0; found = []; note = rest; passes = 0; start = []; back = []; words = None; loose = false }
 
   -- what the home of the end knows of the pass of a rank
   pub record Returned (start history : List (Event C A)) (rank : ℕ) (pass : View C A X K) : Type 0 where

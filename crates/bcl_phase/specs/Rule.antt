@@ -1,6 +1,6 @@
 -- The rule that the words of every container keep: one history, of which each seat knows a beginning.
 -- The container adds what its words mean: its sequential object, what a promise permits, and how words, state and calls in flight fit.
-use Rattle.std.specs.Prelude.{◌≡◌, ℕ, ◌+◌, ◌<◌, ◌≤◌, ◌^◌, List, [], ◌∷◌, ◌++◌, length, slice_index, slice_set, Some, true, false}
+use Rattle.std.specs.Prelude.{◌≡◌, ℕ, ◌+◌, ◌<◌, ◌≤◌, ◌^◌, List, [], ◌∷◌, ◌++◌, length, slice_index, slice_set, Some, Option, true, false}
 use Rattle.std.specs.List.{All}
 use mathlib.Core.Option as plain
 use mathlib.Core.List.{IsPrefix}
@@ -62,7 +62,12 @@ module _ {C A X K T : Type 0} (next : K → T → C → A × T) (permits : K →
       × fits key promise (slice_set ws i (f (slice_index ws i))) (state_by (next key) t did) (slice_set xs rank y)
       × then (slice_index ws i) t did y
 
-  -- what it shows of one step of the home, as no call is in flight: the home may make calls of its own
-  abbrev pub Rests : K → ℕ → ℕ → (ℕ → ℕ) → (ℕ → T → List C → Type 0) → Type 0
-  Rests key promise i f then = (ws : List ℕ) (t : T) → fits key promise ws t [] → slice_index ws i < 2 ^ 64
-      → (did : List C) × fits key promise (slice_set ws i (f (slice_index ws i))) (state_by (next key) t did) [] × then (slice_index ws i) t did
+  -- what it shows of one step of the home, as no call is in flight and the promise is 0: of the words, which are those that the home knows if it knows any; the home may make calls of its own
+  abbrev pub Rests : K → Option (List ℕ) → ℕ → (ℕ → ℕ) → (ℕ → T → List C → Type 0) → Type 0
+  Rests key known i f then = (ws : List ℕ) (t : T) → ((vs : List ℕ) → known ≡ Some vs → ws ≡ vs) → fits key 0 ws t [] → slice_index ws i < 2 ^ 64
+      → (did : List C) × fits key 0 (slice_set ws i (f (slice_index ws i))) (state_by (next key) t did) [] × then (slice_index ws i) t did
+
+  -- what it shows of two puts of the home that belong together, as no call is in flight: the words between them need not fit, and the second makes the calls
+  abbrev pub Pairs : K → Option (List ℕ) → ℕ → ℕ → ℕ → ℕ → (T → List C → Type 0) → Type 0
+  Pairs key known i v j w then = (ws : List ℕ) (t : T) → ((vs : List ℕ) → known ≡ Some vs → ws ≡ vs) → fits key 0 ws t []
+      → (did : List C) × fits key 0 (slice_set (slice_set ws i v) j w) (state_by (next key) t did) [] × then t did

@@ -1,6 +1,6 @@
 -- What a call leaves of a pass, said of its view before and after: the definitions that the contracts of every container cite.
 -- The call stands in the history with its events, behind all that the pass had seen.
-use Rattle.std.specs.Prelude.{◌≡◌, ℕ, ◌≤◌, List, [], ◌∷◌, ◌++◌, ◌⊎◌}
+use Rattle.std.specs.Prelude.{◌≡◌, ℕ, ◌≤◌, List, [], ◌∷◌, ◌++◌, length, ◌⊎◌}
 use Rattle.std.specs.List.{All}
 use mathlib.Core.List.{IsPrefix}
 use Rattle.bcl_event.specs.declared.event.Event.{Event}
@@ -9,7 +9,7 @@ use Rattle.bcl_phase.specs.declared.view.View.{View}
 use Rattle.bcl_phase.specs.Rule.{IsPermitted}
 
 module _ {C A X K : Type 0} where
-  -- a pass of the same rank, container and promise, whose counts have not fallen
+  -- a pass of the same rank, container and promise, whose counts have not fallen, and which has found what it had found
   pub record GoesOn (old new : View C A X K) : Type 0 where
     pub same_role : new.role ≡ old.role
     pub same_key : new.key ≡ old.key
@@ -18,6 +18,7 @@ module _ {C A X K : Type 0} where
     pub gets_rise : old.gets ≤ new.gets
     pub puts_rise : old.puts ≤ new.puts
     pub atomics_rise : old.atomics ≤ new.atomics
+    pub found_rises : length old.found ≤ length new.found
 
   -- steps that make no call
   pub record Still (old new : View C A X K) : Type 0 where

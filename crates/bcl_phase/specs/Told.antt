@@ -1,6 +1,6 @@
 -- What a step tells the seat that makes it, of its view before and after.
 -- Each step tells how the view has changed; and of the history as it was, the calls that the step makes there.
-use Rattle.std.specs.Prelude.{◌≡◌, ℕ, ◌≤◌, List, [], ◌++◌, slice_index, slice_set, Some}
+use Rattle.std.specs.Prelude.{◌≡◌, ℕ, ◌≤◌, List, [], ◌++◌, length, slice_index, slice_set, Some, false, Result, Ok, Err}
 use Rattle.std.specs.List.{All}
 use mathlib.Core.Option as plain
 use mathlib.Core.List.{IsPrefix}
@@ -8,8 +8,13 @@ use lib.ListN.{get_elem?}
 use Rattle.bcl_event.specs.declared.event.Event.{Event}
 use Rattle.bcl_event.specs.History.{of, state_after, IsLegal, events}
 use Rattle.bcl_phase.specs.declared.view.View.{View}
-use Rattle.bcl_phase.specs.Views.{Tick, gets_after, puts_after, atomics_after, seen_by, gone_on}
+use Rattle.bcl_phase.specs.Views.{Tick, put, loosened, loose_after, gets_after, puts_after, atomics_after, seen_by, gone_on, one_more}
 use Rattle.bcl_phase.specs.Rule.{IsPermitted, IsBack}
+
+-- the words found, once an exchange at this word has this result
+abbrev pub tried : List (ℕ × ℕ) → ℕ → Result ℕ ℕ → List (ℕ × ℕ)
+tried found word (Ok n) = found
+tried found word (Err n) = one_more found word n
 
 module _ {C A X K T : Type 0} (ranks : K → ℕ) (start : K → T) (next : K → T → C → A × T) (permits : K → ℕ → ℕ → C → Type 0) where
   -- of any step of a pass, by its kind
@@ -21,6 +26,7 @@ module _ {C A X K T : Type 0} (ranks : K → ℕ) (start : K → T) (next : K �
     pub gets_rise : w.gets ≡ gets_after tick v.gets
     pub puts_rise : w.puts ≡ puts_after tick v.puts
     pub atomics_rise : w.atomics ≡ atomics_after tick v.atomics
+    pub found_rises : length v.found ≤ length w.found
     pub legal : IsLegal (next k) (start k) w.seen
     pub own : of w.rank w.seen ≡ w.mine
     pub late : List (Event C A)
@@ -52,9 +58,19 @@ module _ {C A X K T : Type 0} (start : K → T) (next : K → T → C → A × T
   pub record HomeTold (k : K) (tick : Tick) (v : View C A X K) (i : ℕ) (f : ℕ → ℕ) (then : ℕ → T → List C → Type 0) (n : ℕ) (w : View C A X K) : Type 0 where
     pub words : List ℕ
     pub known : (ws : List ℕ) → v.words ≡ Some ws → words ≡ ws
-    pub fit : fits k v.promise words (state_after (next k) (start k) v.seen) []
+    pub fit : fits k 0 words (state_after (next k) (start k) v.seen) []
     pub found : f n ≡ f (slice_index words i)
     pub did : List C
     pub fact : then n (state_after (next k) (start k) v.seen) did
     pub after : w ≡ gone_on tick v (events (next k) v.rank (state_after (next k) (start k) v.seen) did) (slice_set words i (f (slice_index words i)))
+    pub legal : IsLegal (next k) (start k) w.seen
+
+  -- of two puts of the home that belong together: the words as they were, which fit, the calls that the second makes, and that `then` holds of the state and of these calls
+  pub record PairTold (k : K) (v : View C A X K) (i n j m : ℕ) (then : T → List C → Type 0) (w : View C A X K) : Type 0 where
+    pub words : List ℕ
+    pub known : (ws : List ℕ) → v.words ≡ Some ws → words ≡ ws
+    pub fit : fits k 0 words (state_after (next k) (start k) v.seen) []
+    pub did : List C
+    pub fact : then (state_after (next k) (start k) v.seen) did
+    pub after : w ≡ record (gone_on put (loose_after put (slice_set words i n) (loosened words v)) (events (next k) v.rank (state_after (next k) (start k) v.seen) did) (slice_set (slice_set words i n) j m)) { loose = false }
     pub legal : IsLegal (next k) (start k) w.seen

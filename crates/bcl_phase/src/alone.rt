@@ -6,11 +6,12 @@
 
 ghost use Rattle.std.specs.Prelude.{◌≡◌};
 ghost use Rattle.bcl_phase.specs.Views.{get as a_get, put as a_put};
-ghost use Rattle.bcl_phase.specs.Rule.{Rests};
-ghost use Rattle.bcl_phase.specs.Told.{HomeTold};
+ghost use Rattle.bcl_phase.specs.Rule.{Rests, Pairs};
+ghost use Rattle.bcl_phase.specs.Told.{HomeTold, PairTold};
 ghost use Rattle.bcl_phase.specs.Parts.{home_key, home_layout, home_view, home_word, HomeHasSpot, IsSameHome};
 
-use crate::told::{HomeGets, HomePuts};
+use crate::home::FIRST;
+use crate::told::{HomeGets, HomePuts, LoosePuts, Loosens, MendPuts};
 use crate::{Home, Learns, Phased};
 use bcl_segment::{Layout, Spot};
 
@@ -18,7 +19,7 @@ impl<R: Phased> Home<R> {
     /// The word at a spot, by one load. It raises `gets` by one.
     pub fn get<M: Learns<R::State, R::Call, R::Note>, E>(&mut self, spot: Spot, about: &E) -> u64
         requires spot { HomeHasSpot self.old spot }
-        requires step { Rests R.next R.permits R.fits (home_key self.old) (home_view self.old).promise (home_word self.old spot) (λ n. n) (λ n t did. M.then n t did R.rest) }
+        requires step { Rests R.next R.permits R.fits (home_key self.old) (home_view self.old).words (home_word self.old spot) (λ n. n) (λ n t did. M.then n t did R.rest) }
         ensures told { HomeTold R.start R.next R.fits (home_key self.old) a_get (home_view self.old) (home_word self.old spot) (λ n. n) (λ n t did. M.then n t did R.rest) result (home_view self.new) }
         ensures same { IsSameHome self.old self.new }
     {
@@ -34,7 +35,7 @@ impl<R: Phased> Home<R> {
         about: &E,
     )
         requires spot { HomeHasSpot self.old spot }
-        requires step { Rests R.next R.permits R.fits (home_key self.old) (home_view self.old).promise (home_word self.old spot) (λ _. word) (λ _ t did. M.then word t did R.rest) }
+        requires step { Rests R.next R.permits R.fits (home_key self.old) (home_view self.old).words (home_word self.old spot) (λ _. word) (λ _ t did. M.then word t did R.rest) }
         ensures told { HomeTold R.start R.next R.fits (home_key self.old) a_put (home_view self.old) (home_word self.old spot) (λ _. word) (λ n t did. M.then n t did R.rest) word (home_view self.new) }
         ensures same { IsSameHome self.old self.new }
     {
@@ -42,6 +43,32 @@ impl<R: Phased> Home<R> {
         owned
             .segments
             .put::<HomePuts<R, M>>(&mut owned.seat, spot, word);
+    }
+
+    /// Puts a word at each of two spots, by a store each, where the words between the two mean nothing. The second
+    /// makes the calls. Besides, one load of the first word before, which isn't counted.
+    pub fn put_both<M: Learns<R::State, R::Call, R::Note>, E>(
+        &mut self,
+        first: Spot,
+        word: u64,
+        second: Spot,
+        other: u64,
+        about: &E,
+    )
+        requires first { HomeHasSpot self.old first }
+        requires second { HomeHasSpot self.old second }
+        requires step { Pairs R.next R.permits R.fits (home_key self.old) (home_view self.old).words (home_word self.old first) word (home_word self.old second) other (λ t did. M.then other t did R.rest) }
+        ensures told { PairTold R.start R.next R.fits (home_key self.old) (home_view self.old) (home_word self.old first) word (home_word self.old second) other (λ t did. M.then other t did R.rest) (home_view self.new) }
+        ensures same { IsSameHome self.old self.new }
+    {
+        let owned = &mut self.owned;
+        owned.segments.get::<Loosens<R>>(&mut owned.seat, FIRST);
+        owned
+            .segments
+            .put::<LoosePuts<R>>(&mut owned.seat, first, word);
+        owned
+            .segments
+            .put::<MendPuts<R, M>>(&mut owned.seat, second, other);
     }
 
     /// How many ranks there are, and how many words the segment of each has.

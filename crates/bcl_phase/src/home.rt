@@ -1,11 +1,11 @@
 //! Who has a container alone.
 
-ghost use Rattle.std.specs.Prelude.{◌≡◌, ◌<◌, false};
-ghost use Rattle.bcl_segment.specs.Parts.{layout_of, heads_of, view_of, HasSpot};
-ghost use Rattle.bcl_phase.specs.Seats.{IsHomeSeat};
+ghost use Rattle.std.specs.Prelude.{◌≡◌, false};
+ghost use Rattle.bcl_segment.specs.Parts.{key_of, layout_of, heads_of, view_of};
+ghost use Rattle.bcl_phase.specs.Seats.{IsHomeSeat, IsLaid};
 
 use crate::Phased;
-use bcl_segment::{GlobalPtr, Layout, Seat, Segments, Spot};
+use bcl_segment::{Layout, Seat, Segments, Spot};
 
 /// The words of a container and their first seat.
 #[derive(Drop)]
@@ -17,19 +17,11 @@ pub(crate) struct Owned<R: Phased> {
     ghost seated: { IsHomeSeat segments seat },
     ghost shape: { layout ≡ layout_of segments },
     ghost front: { heads ≡ heads_of segments },
+    pub ghost laid: { IsLaid (R.sound (key_of segments)) (R.heads (key_of segments)) (R.layout (key_of segments)) (heads_of segments) (layout_of segments) },
 }
 
-// The spot of the first word.
-pub(crate) fn first_spot<R: Phased>(segments: &Segments<R>, heads: u32) -> Spot
-    requires heads { heads ≡ heads_of segments.now }
-    ensures first { HasSpot segments.now result }
-{
-    if heads > 0 {
-        Spot::Head(0)
-    } else {
-        Spot::At(GlobalPtr { rank: 0, offset: 0 })
-    }
-}
+// The first word of all.
+pub(crate) const FIRST: Spot = Spot::Head(0);
 
 /// A container that one caller has alone: no pass is out.
 #[derive(Drop)]
@@ -37,4 +29,5 @@ pub struct Home<R: Phased> {
     pub(crate) owned: Owned<R>,
     pub ghost alone: { (view_of owned.seat).passes ≡ 0 },
     pub ghost whole: { (view_of owned.seat).loose ≡ false },
+    pub ghost at_home: { (view_of owned.seat).promise ≡ 0 },
 }

@@ -8,7 +8,7 @@ ghost use Rattle.bcl_event.specs.History.{state_after};
 ghost use Rattle.bcl_phase.specs.Views.{knowing};
 ghost use Rattle.bcl_phase.specs.Parts.{home_view, home_words, home_key, home_word, closed_view, HomeHasSpot, IsSameHome};
 
-use crate::home::{Owned, first_spot};
+use crate::home::{FIRST, Owned};
 use crate::told::{Forgets, Knows, Looks};
 use crate::{Home, Phased};
 use bcl_segment::{Resting, Spot};
@@ -24,12 +24,11 @@ impl<R: Phased> Home<R> {
     pub fn learn(&mut self)
         ensures view { home_view self.new ≡ knowing (Some (home_words self.new)) (home_view self.old) }
         ensures words { (ws : List ℕ) → (home_view self.old).words ≡ Some ws → home_words self.new ≡ ws }
-        ensures fit { R.fits (home_key self.old) (home_view self.old).promise (home_words self.new) (state_after (R.next (home_key self.old)) (R.start (home_key self.old)) (home_view self.old).seen) [] }
+        ensures fit { R.fits (home_key self.old) 0 (home_words self.new) (state_after (R.next (home_key self.old)) (R.start (home_key self.old)) (home_view self.old).seen) [] }
         ensures same { IsSameHome self.old self.new }
     {
         let owned = &mut self.owned;
-        let first = first_spot::<R>(&owned.segments, owned.heads);
-        owned.segments.get::<Knows<R>>(&mut owned.seat, first);
+        owned.segments.get::<Knows<R>>(&mut owned.seat, FIRST);
     }
 
     /// The word at a spot, by one load, which isn't counted. Condition: the words are known.
@@ -50,8 +49,7 @@ impl<R: Phased> Home<R> {
         ensures same { IsSameHome self.old self.new }
     {
         let owned = &mut self.owned;
-        let first = first_spot::<R>(&owned.segments, owned.heads);
-        owned.segments.get::<Forgets<R>>(&mut owned.seat, first);
+        owned.segments.get::<Forgets<R>>(&mut owned.seat, FIRST);
     }
 
     /// Gives the words back. What the home knew stays. It makes no step.

@@ -1,9 +1,9 @@
 //! Who has begun a phase, and ends it.
 
 ghost use Rattle.std.specs.Prelude.{◌≡◌, [], false};
-ghost use Rattle.bcl_segment.specs.Parts.{layout_of, heads_of};
+ghost use Rattle.bcl_segment.specs.Parts.{key_of, layout_of, heads_of};
 ghost use Rattle.bcl_segment.specs.Resting.{resting_view};
-ghost use Rattle.bcl_phase.specs.Seats.{IsRestingHome};
+ghost use Rattle.bcl_phase.specs.Seats.{IsRestingHome, IsLaid};
 
 use crate::Phased;
 use bcl_segment::{Layout, Resting, Segments};
@@ -18,6 +18,7 @@ pub struct Lead<R: Phased> {
     ghost seated: { IsRestingHome segments home },
     ghost shape: { layout ≡ layout_of segments },
     ghost front: { heads ≡ heads_of segments },
+    pub ghost laid: { IsLaid (R.sound (key_of segments)) (R.heads (key_of segments)) (R.layout (key_of segments)) (heads_of segments) (layout_of segments) },
     pub ghost shared: { (resting_view home).passes ≡ layout.ranks },
     pub ghost whole: { (resting_view home).loose ≡ false },
     pub ghost none_back: { (resting_view home).back ≡ [] },

@@ -26,9 +26,10 @@
 //! - `begin`, `end`, `turn`: how a phase begins and ends, by `specs/Phases.antt`.
 //! - `learns`, `steps`: the steps of a pass, and what each tells, by `specs/Told.antt`. `alone`: the steps of a home.
 //!   `known`: how a home knows its words, and closes. `loose`: a home whose words need not fit.
-//! - `specs/Stands.antt`: what the contract of every container's call cites.
+//! - `specs/Stands.antt`: what the contract of every container's call cites. `specs/Found.antt`: what a pass has looked at.
 //! - `flight`: a call in flight on an object of several words, and `specs/Flights.antt` where such words stand.
-//! - `kit`, `gate`: supersteps.
+//! - `kit`, `gate`: supersteps. `carries`: passes out of kits. `lend`: the last of a
+//!   list of passes, lent.
 //! - `told`: the same in the words of the segments. `refused`: want of memory.
 //!
 //! `bcl_tally` is the smallest container, and uses all of it.
@@ -36,6 +37,7 @@
 
 mod alone;
 mod begin;
+mod carries;
 mod end;
 mod flight;
 mod gate;
@@ -44,11 +46,13 @@ mod kit;
 mod known;
 mod lead;
 mod learns;
+mod lend;
 mod loose;
 mod pass;
 mod phased;
 mod promise;
 mod refused;
+mod rested;
 mod steps;
 #[cfg(test)]
 mod sums;
@@ -59,6 +63,7 @@ mod turn;
 mod view;
 mod wraps;
 
+pub use carries::{Carries, passes_of};
 pub use flight::Flight;
 pub use gate::{Always, Gate};
 pub use home::Home;
@@ -66,10 +71,12 @@ pub use kit::{Kit, superstep, superstep_all};
 pub use known::Closed;
 pub use lead::Lead;
 pub use learns::Learns;
+pub use lend::with_last;
 pub use loose::Loose;
 pub use pass::Pass;
-pub use phased::{Grants, Phased};
+pub use phased::{Grants, Phased, Settles};
 pub use promise::{Add, Any, Find, FindInsert, Own, Pop, Promise, Push, PushPop, Read};
 pub use refused::Refused;
+pub use rested::Rested;
 pub use view::{Role, View};
 pub use wraps::Wraps;

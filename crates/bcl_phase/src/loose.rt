@@ -8,7 +8,7 @@ ghost use Rattle.bcl_event.specs.History.{state_after};
 ghost use Rattle.bcl_segment.specs.Parts.{view_of};
 ghost use Rattle.bcl_phase.specs.Views.{get as a_get, put as a_put, words_of, loosened, loose_after, mended};
 
-use crate::home::{Owned, first_spot};
+use crate::home::{FIRST, Owned};
 use crate::told::{LooseGets, LoosePuts, Loosens, Mends};
 use crate::{Home, Phased};
 use bcl_segment::Spot;
@@ -19,6 +19,7 @@ pub struct Loose<R: Phased> {
     pub(crate) owned: Owned<R>,
     pub ghost alone: { (view_of owned.seat).passes ≡ 0 },
     pub ghost known: { (view_of owned.seat).words ≡ Some (words_of (view_of owned.seat)) },
+    pub ghost at_home: { (view_of owned.seat).promise ≡ 0 },
 }
 
 impl<R: Phased> Home<R> {
@@ -28,7 +29,7 @@ impl<R: Phased> Home<R> {
     pub fn loosen(self) -> Loose<R>
         ensures view { loose_view result ≡ loosened (loose_words result) (home_view self) }
         ensures words { (ws : List ℕ) → (home_view self).words ≡ Some ws → loose_words result ≡ ws }
-        ensures fit { R.fits (loose_key result) (home_view self).promise (loose_words result) (state_after (R.next (loose_key result)) (R.start (loose_key result)) (home_view self).seen) [] }
+        ensures fit { R.fits (loose_key result) 0 (loose_words result) (state_after (R.next (loose_key result)) (R.start (loose_key result)) (home_view self).seen) [] }
         ensures same { IsLooseOf result self }
     {
         let Owned {
@@ -37,8 +38,7 @@ impl<R: Phased> Home<R> {
             layout,
             heads,
         } = self.owned;
-        let first = first_spot::<R>(&segments, heads);
-        segments.get::<Loosens<R>>(&mut seat, first);
+        segments.get::<Loosens<R>>(&mut seat, FIRST);
         Loose {
             owned: Owned {
                 segments,
@@ -80,7 +80,7 @@ impl<R: Phased> Loose<R> {
     ///
     /// Condition: they fit what the home has seen.
     pub fn mend(self) -> Home<R>
-        requires fit { R.fits (loose_key self) (loose_view self).promise (loose_words self) (state_after (R.next (loose_key self)) (R.start (loose_key self)) (loose_view self).seen) [] }
+        requires fit { R.fits (loose_key self) 0 (loose_words self) (state_after (R.next (loose_key self)) (R.start (loose_key self)) (loose_view self).seen) [] }
         ensures view { home_view result ≡ mended (loose_words self) (loose_view self) }
         ensures same { IsLooseOf self result }
     {
@@ -90,8 +90,7 @@ impl<R: Phased> Loose<R> {
             layout,
             heads,
         } = self.owned;
-        let first = first_spot::<R>(&segments, heads);
-        segments.get::<Mends<R>>(&mut seat, first);
+        segments.get::<Mends<R>>(&mut seat, FIRST);
         Home {
             owned: Owned {
                 segments,

@@ -1,7 +1,9 @@
 //! One rank's part in a phase.
 
 ghost use Rattle.std.specs.Prelude.{◌≡◌, ◌<◌};
-ghost use Rattle.bcl_phase.specs.Seats.{IsPassSeat};
+ghost use Rattle.bcl_event.specs.History.{of};
+ghost use Rattle.bcl_segment.specs.Parts.{view_of};
+ghost use Rattle.bcl_phase.specs.Seats.{IsPassSeat, IsLaidBy};
 
 use crate::{Phased, Promise};
 use bcl_segment::{Layout, Seat};
@@ -16,6 +18,8 @@ pub struct Pass<R: Phased, P: Promise> {
     promise: PhantomData<P>,
     pub ghost pass: { IsPassSeat P.CODE rank seat },
     pub ghost within: { rank < layout.ranks },
+    pub ghost own: { of (view_of seat).rank (view_of seat).seen ≡ (view_of seat).mine },
+    pub ghost laid: { IsLaidBy R.sound R.heads R.layout (view_of seat).key layout },
 }
 
 impl<R: Phased, P: Promise> Pass<R, P> {
@@ -24,6 +28,8 @@ impl<R: Phased, P: Promise> Pass<R, P> {
     pub(crate) fn seated(seat: Seat<R>, rank: u32, layout: Layout) -> Pass<R, P>
         requires pass { IsPassSeat P.CODE rank seat }
         requires within { rank < layout.ranks }
+        requires own { of (view_of seat).rank (view_of seat).seen ≡ (view_of seat).mine }
+        requires laid { IsLaidBy R.sound R.heads R.layout (view_of seat).key layout }
         ensures seat { result.seat ≡ seat }
         ensures layout { result.layout ≡ layout }
     {

@@ -6,7 +6,7 @@ ghost use Rattle.std.specs.Prelude.{ℕ};
 /// still right (Brock, Buluç, Yelick, ICPP 2019).
 ///
 /// Which calls a promise permits to which rank stands in the tables of `bcl_event`, container by container.
-pub trait Promise {
+pub trait Promise: sealed::Sealed {
     /// Its number among the nine, from 1 on, by which a view names it.
     const CODE: u64;
 
@@ -92,4 +92,27 @@ impl Promise for Any {
     const CODE: u64 = 9;
 
     ghost CODE = { 9 };
+}
+
+// Only the nine are promises.
+mod sealed {
+    pub trait Sealed {}
+
+    impl Sealed for super::Find {}
+
+    impl Sealed for super::Own {}
+
+    impl Sealed for super::Add {}
+
+    impl Sealed for super::FindInsert {}
+
+    impl Sealed for super::Push {}
+
+    impl Sealed for super::Pop {}
+
+    impl Sealed for super::PushPop {}
+
+    impl Sealed for super::Read {}
+
+    impl Sealed for super::Any {}
 }

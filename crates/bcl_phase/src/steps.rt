@@ -2,17 +2,18 @@
 //!
 //! All have the same conditions: the segments have the spot, the pass is of the lead, and the container shows by `Moves`
 //! that its own rule allows the step. Each tells how the view has changed (`Took`), and of the history as it was, the
-//! calls that the step makes there and what `M` picks (`Told`). `about` is for the proof alone, which may name it where
+//! calls that the step makes there and what `M` picks (`Told`). A get and a lost exchange add the word that they found
+//! to those that the pass has found. `about` is for the proof alone, which may name it where
 //! it picks.
 
 ghost use Rattle.std.specs.Prelude.{◌≡◌, ◌≢◌, ◌+◌, ◌-◌, ◌%◌, ◌^◌, ◌==◌, min, bit_or, IfOk, IfErr, if◌then◌else◌};
 ghost use Rattle.bcl_segment.specs.Steps.{found_by};
-ghost use Rattle.bcl_phase.specs.Views.{get as a_get, put as a_put, atomic as an_atomic};
+ghost use Rattle.bcl_phase.specs.Views.{get as a_get, put as a_put, atomic as an_atomic, one_more};
 ghost use Rattle.bcl_phase.specs.Rule.{Moves};
-ghost use Rattle.bcl_phase.specs.Told.{Took, Told};
+ghost use Rattle.bcl_phase.specs.Told.{Took, Told, tried};
 ghost use Rattle.bcl_phase.specs.Parts.{lead_key, lead_word, pass_view, HasSpot, IsOf};
 
-use crate::told::{Changes, Gets, Puts};
+use crate::told::{Changes, Gets, Puts, Tries};
 use crate::{Lead, Learns, Pass, Phased, Promise};
 use bcl_segment::Spot;
 
@@ -30,6 +31,7 @@ impl<R: Phased, P: Promise> Pass<R, P> {
         requires step { Moves R.next R.permits R.fits (lead_key lead.now) (pass_view self.old).promise (pass_view self.old).rank (pass_view self.old).note (lead_word lead.now spot) (λ n. n) M.then }
         ensures told { Told R.start R.next (lead_key lead.now) (pass_view self.old) M.then result (pass_view self.new) }
         ensures took { Took R.ranks R.start R.next R.permits (lead_key lead.now) a_get (pass_view self.old) (pass_view self.new) }
+        ensures found { (pass_view self.new).found ≡ one_more (pass_view self.old).found (lead_word lead.now spot) result }
         ensures of { IsOf self.new lead.now }
     {
         lead.segments.get::<Gets<R, M>>(&mut self.seat, spot)
@@ -49,6 +51,7 @@ impl<R: Phased, P: Promise> Pass<R, P> {
         requires step { Moves R.next R.permits R.fits (lead_key lead.now) (pass_view self.old).promise (pass_view self.old).rank (pass_view self.old).note (lead_word lead.now spot) (λ _. word) (λ _. M.then word) }
         ensures told { Told R.start R.next (lead_key lead.now) (pass_view self.old) M.then word (pass_view self.new) }
         ensures took { Took R.ranks R.start R.next R.permits (lead_key lead.now) a_put (pass_view self.old) (pass_view self.new) }
+        ensures found { (pass_view self.new).found ≡ (pass_view self.old).found }
         ensures of { IsOf self.new lead.now }
     {
         lead.segments.put::<Puts<R, M>>(&mut self.seat, spot, word);
@@ -72,10 +75,11 @@ impl<R: Phased, P: Promise> Pass<R, P> {
         ensures err { IfErr result (λ n. n ≢ old) }
         ensures told { Told R.start R.next (lead_key lead.now) (pass_view self.old) M.then (found_by result) (pass_view self.new) }
         ensures took { Took R.ranks R.start R.next R.permits (lead_key lead.now) an_atomic (pass_view self.old) (pass_view self.new) }
+        ensures found { (pass_view self.new).found ≡ tried (pass_view self.old).found (lead_word lead.now spot) result }
         ensures of { IsOf self.new lead.now }
     {
         lead.segments
-            .cas::<Changes<R, M>>(&mut self.seat, spot, old, new)
+            .cas::<Tries<R, M>>(&mut self.seat, spot, old, new)
     }
 
     /// Adds to the word at a spot, and answers the old word. The sum wraps at 2^64. It raises `atomics` by one.
@@ -92,6 +96,7 @@ impl<R: Phased, P: Promise> Pass<R, P> {
         requires step { Moves R.next R.permits R.fits (lead_key lead.now) (pass_view self.old).promise (pass_view self.old).rank (pass_view self.old).note (lead_word lead.now spot) (λ n. (n + word) % 2 ^ 64) M.then }
         ensures told { Told R.start R.next (lead_key lead.now) (pass_view self.old) M.then result (pass_view self.new) }
         ensures took { Took R.ranks R.start R.next R.permits (lead_key lead.now) an_atomic (pass_view self.old) (pass_view self.new) }
+        ensures found { (pass_view self.new).found ≡ (pass_view self.old).found }
         ensures of { IsOf self.new lead.now }
     {
         lead.segments
@@ -113,6 +118,7 @@ impl<R: Phased, P: Promise> Pass<R, P> {
         requires step { Moves R.next R.permits R.fits (lead_key lead.now) (pass_view self.old).promise (pass_view self.old).rank (pass_view self.old).note (lead_word lead.now spot) (λ n. (n + (2 ^ 64 - word)) % 2 ^ 64) M.then }
         ensures told { Told R.start R.next (lead_key lead.now) (pass_view self.old) M.then result (pass_view self.new) }
         ensures took { Took R.ranks R.start R.next R.permits (lead_key lead.now) an_atomic (pass_view self.old) (pass_view self.new) }
+        ensures found { (pass_view self.new).found ≡ (pass_view self.old).found }
         ensures of { IsOf self.new lead.now }
     {
         lead.segments
@@ -133,6 +139,7 @@ impl<R: Phased, P: Promise> Pass<R, P> {
         requires step { Moves R.next R.permits R.fits (lead_key lead.now) (pass_view self.old).promise (pass_view self.old).rank (pass_view self.old).note (lead_word lead.now spot) (λ n. bit_or n word) M.then }
         ensures told { Told R.start R.next (lead_key lead.now) (pass_view self.old) M.then result (pass_view self.new) }
         ensures took { Took R.ranks R.start R.next R.permits (lead_key lead.now) an_atomic (pass_view self.old) (pass_view self.new) }
+        ensures found { (pass_view self.new).found ≡ (pass_view self.old).found }
         ensures of { IsOf self.new lead.now }
     {
         lead.segments
@@ -153,6 +160,7 @@ impl<R: Phased, P: Promise> Pass<R, P> {
         requires step { Moves R.next R.permits R.fits (lead_key lead.now) (pass_view self.old).promise (pass_view self.old).rank (pass_view self.old).note (lead_word lead.now spot) (λ n. min n word) M.then }
         ensures told { Told R.start R.next (lead_key lead.now) (pass_view self.old) M.then result (pass_view self.new) }
         ensures took { Took R.ranks R.start R.next R.permits (lead_key lead.now) an_atomic (pass_view self.old) (pass_view self.new) }
+        ensures found { (pass_view self.new).found ≡ (pass_view self.old).found }
         ensures of { IsOf self.new lead.now }
     {
         lead.segments

@@ -101,6 +101,65 @@ fn kits_in_a_list_do_their_parts(rt: HostRuntime) -> Result<(), Fail> {
     Ok(())
 }
 
+// Counts how often each of two ranks entered.
+#[derive(Drop)]
+struct Doors {
+    zero: AtomicU64,
+    one: AtomicU64,
+}
+
+impl Doors {
+    fn door(&self, rank: u32) -> &AtomicU64 {
+        if rank == 0 { &self.zero } else { &self.one }
+    }
+}
+
+impl Gate for Doors {
+    fn enter(&self, rank: u32) {
+        self.door(rank).fetch_add(1, Ordering::SeqCst);
+    }
+}
+
+// Notes in its part how often its rank had entered.
+#[derive(Clone, Copy)]
+struct Comer<'a> {
+    doors: &'a Doors,
+    rank: u32,
+    entered: u64,
+}
+
+impl<'a> Kit for Comer<'a> {
+    ghost ready = { λ _. Unit {0} };
+
+    ghost step = { λ _ _. Unit {0} };
+
+    fn rank(&self) -> u32 {
+        self.rank
+    }
+
+    fn part(&mut self) {
+        self.entered = self.doors.door(self.rank).load(Ordering::SeqCst);
+    }
+}
+
+#[test]
+fn each_rank_enters_before_its_part(rt: HostRuntime) {
+    let doors = Doors {
+        zero: AtomicU64::new(0),
+        one: AtomicU64::new(0),
+    };
+    let comer = |rank: u32| Comer {
+        doors: &doors,
+        rank,
+        entered: 0,
+    };
+    let mut kits = [comer(1), comer(0)];
+    superstep(&rt, &mut kits, &doors);
+    assert_eq!(rt; [kits[0].entered, kits[1].entered], [1, 1]);
+    superstep(&rt, &mut kits, &doors);
+    assert_eq!(rt; [kits[0].entered, kits[1].entered], [2, 2]);
+}
+
 fn code<P: Promise>() -> u64 {
     P::CODE
 }

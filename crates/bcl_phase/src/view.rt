@@ -34,6 +34,8 @@ pub struct View<C, A, X, K> {
     pub puts: u64,
     /// How many of its own steps were exchanges or fetches.
     pub atomics: u64,
+    /// Of a pass: the words that its gets and lost exchanges found, in order. Of each the number and what it was.
+    pub found: LinkedList<(u64, u64)>,
     /// The call in flight.
     pub note: X,
     /// Of a home: how many passes are out.

@@ -4,7 +4,7 @@ ghost use Rattle.std.specs.Prelude.{◌≡◌};
 
 /// A type that is another with a name, and methods, of its own.
 ///
-/// A container's pass is one over [`Pass`](crate::Pass): a phase hands out passes of that type and takes them back, each
+/// A container's pass is one over [`Rested`](crate::Rested): a phase hands out passes of that type and takes them back, each
 /// without memory.
 pub trait Wraps: Drop {
     type Inner;
@@ -12,11 +12,7 @@ pub trait Wraps: Drop {
     // what it holds
     ghost inner: { Self → Self.Inner };
 
-    // what it can hold
-    ghost takes: { Self.Inner → Type 0 };
-
     fn wrap(it: Self::Inner) -> Self
-        requires takes { takes it }
         ensures inner { inner result ≡ it };
 
     fn into_inner(self) -> Self::Inner

@@ -22,9 +22,9 @@ place_of layout ptr = ptr.rank * layout.per_rank + ptr.offset
 abbrev pub ptr_of : Layout → ℕ → GlobalPtr
 ptr_of layout place = record { rank = place / layout.per_rank; offset = place % layout.per_rank }
 
--- the spot is there, behind so many head words
+-- the spot is there, where there are so many head words: a number counts the words, the head words first
 abbrev pub IsSpot : ℕ → Layout → Spot → Type 0
-IsSpot heads layout (Head i) = i < heads
+IsSpot heads layout (Head i) = i < heads + places layout
 IsSpot heads layout (At ptr) = Points layout ptr
 
 -- the number of the word at a spot

@@ -17,11 +17,36 @@ pub struct Layout {
     pub per_rank: u32,
 }
 
-/// Names a word of segments: a shared head word by its number, or a word of a rank's segment.
+/// Names a word of segments: by its number, where the head words come first and then the segments in the order of the
+/// ranks, or by where it stands in a rank's segment.
+///
+/// A number costs no arithmetic at the step. A pointer costs a multiplication.
 #[derive(Clone, Copy, Debug, PartialEq, Eq)]
 pub enum Spot {
     Head(u32),
     At(GlobalPtr),
+}
+
+impl Spot {
+    ghost use Rattle.std.specs.Prelude.{◌+◌};
+    ghost use Rattle.bcl_segment.specs.declared.layout.Spot.TheVariants.{Head};
+
+    /// The word with this number. Of segments without head words it is the place of the word.
+    #[inline(always)]
+    pub fn word(number: u32) -> Spot
+        ensures spot { result ≡ Head number }
+    {
+        Spot::Head(number)
+    }
+
+    /// The word j of an object whose words stand side by side, the first of them at this number.
+    #[inline(always)]
+    pub fn word_of(first: u32, j: usize) -> Spot
+        requires room { first + j < 2 ^ 32 }
+        ensures spot { result ≡ Head (first + j) }
+    {
+        Spot::Head(first + j as u32)
+    }
 }
 
 impl Layout {

@@ -1,6 +1,6 @@
 -- The tally: its sequential object, what its promises permit, and how its words fit.
 -- A rank's word is its number. A call in flight names the number that it got, which stays as only this rank may change it.
-use Rattle.std.specs.Prelude.{◌≡◌, ℕ, ◌+◌, ◌%◌, ◌^◌, List, length, replicate, slice_index, slice_set}
+use Rattle.std.specs.Prelude.{◌≡◌, ℕ, ◌+◌, ◌%◌, ◌^◌, Bool, true, false, List, length, replicate, slice_index, slice_set}
 use mathlib.Core.Option.{some}
 use lib.ListN.{get_elem?}
 use Rattle.bcl_tally.specs.declared.tally.Call.{Call}
@@ -8,7 +8,12 @@ use Rattle.bcl_tally.specs.declared.tally.Call.TheVariants.{Add, Swap}
 use Rattle.bcl_tally.specs.declared.tally.Reply.{Reply}
 use Rattle.bcl_tally.specs.declared.tally.Reply.TheVariants.{Was}
 use Rattle.bcl_tally.specs.declared.tally.Note.{Note}
-use Rattle.bcl_tally.specs.declared.tally.Note.TheVariants.{Got}
+use Rattle.bcl_tally.specs.declared.tally.Note.TheVariants.{Rest, Got}
+
+-- no call is in flight
+abbrev pub is_rest : Note → Bool
+is_rest Rest = true
+is_rest (Got m) = false
 
 -- the codes of the promises
 abbrev pub owning : ℕ

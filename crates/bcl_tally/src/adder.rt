@@ -2,10 +2,10 @@
 
 ghost use Rattle.std.specs.Prelude.{◌≡◌, ℕ, ◌<◌, [], ◌∷◌};
 ghost use Rattle.bcl_event.specs.History.{event};
-ghost use Rattle.bcl_phase.specs.Parts.{lead_key, lead_layout, lead_heads};
+ghost use Rattle.bcl_phase.specs.Parts.{lead_key};
 ghost use Rattle.bcl_tally.specs.declared.tally.Call.TheVariants.{Add};
 ghost use Rattle.bcl_tally.specs.declared.tally.Reply.TheVariants.{Was};
-ghost use Rattle.bcl_tally.specs.Calls.{IsShaped, Ran};
+ghost use Rattle.bcl_tally.specs.Calls.{Ran};
 ghost use Rattle.bcl_tally.specs.Parts.{pass_view, IsOf};
 
 use crate::pass::TallyPass;
@@ -21,7 +21,7 @@ pub struct Adder<'a> {
 }
 
 impl<'a> Kit for Adder<'a> {
-    ghost ready = { λ k. (0 < lead_key k.lead.now) × IsOf k.pass k.lead.now × IsShaped (lead_key k.lead.now) (lead_heads k.lead.now) (lead_layout k.lead.now) };
+    ghost ready = { λ k. (0 < lead_key k.lead.now) × IsOf k.pass k.lead.now };
 
     ghost step = { λ k l. (l.lead ≡ k.lead) × IsOf l.pass l.lead.now
         × ((a b : ℕ) × Ran (lead_key k.lead.now) (pass_view k.pass) (pass_view l.pass) (event (pass_view k.pass).rank (Add 0 k.n) (Was a) ∷ event (pass_view k.pass).rank (Add (pass_view k.pass).rank k.n) (Was b) ∷ [])) };

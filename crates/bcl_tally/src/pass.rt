@@ -1,42 +1,37 @@
 //! One rank's part in a phase of a tally, and its calls.
 
-ghost use Rattle.std.specs.Prelude.{◌≡◌, ◌+◌, ◌<◌, [], ◌∷◌};
-ghost use Rattle.bcl_event.specs.History.{event};
-ghost use Rattle.bcl_phase.specs.Parts.{lead_key, lead_layout, lead_heads, lead_word, HasSpot};
+ghost use Rattle.std.specs.Prelude.{◌≡◌, ◌+◌, ◌<◌};
+ghost use Rattle.bcl_phase.specs.Parts.{lead_key, lead_word, HasSpot};
 ghost use Rattle.bcl_tally.specs.declared.tally.Reply.TheVariants.{Was};
-ghost use Rattle.bcl_tally.specs.Calls.{IsShaped, IsAtRest, Stands, Goes};
+ghost use Rattle.bcl_tally.specs.Calls.{Goes};
 
 use crate::tally::{Call, Tally};
-use bcl_phase::{Any, Lead, Own, Pass, Promise, Wraps};
+use bcl_phase::{Any, Lead, Own, Promise, Rested, Wraps};
 use bcl_segment::{GlobalPtr, Layout, Spot};
 use std::marker::Brand;
 
 /// One rank's part in a phase of a tally under the promise P. It may go to another thread.
 #[derive(Drop)]
 pub struct TallyPass<P: Promise> {
-    pub(crate) pass: Pass<Tally, P>,
-    ghost rest: { IsAtRest pass },
+    pub(crate) pass: Rested<Tally, P>,
 }
 
 impl<P: Promise> Wraps for TallyPass<P> {
-    type Inner = Pass<Tally, P>;
+    type Inner = Rested<Tally, P>;
 
     ghost inner = { λ pass. pass.pass };
 
-    ghost takes = { IsAtRest };
-
-    fn wrap(it: Pass<Tally, P>) -> Self {
+    fn wrap(it: Rested<Tally, P>) -> Self {
         TallyPass { pass: it }
     }
 
-    fn into_inner(self) -> Pass<Tally, P> {
+    fn into_inner(self) -> Rested<Tally, P> {
         self.pass
     }
 }
 
 // Where the number of a rank stands.
-fn number_of(lead: &Lead<Tally>, rank: u32) -> Spot
-    requires shape { IsShaped (lead_key lead.now) (lead_heads lead.now) (lead_layout lead.now) }
+pub(crate) fn number_of(lead: &Lead<Tally>, rank: u32) -> Spot
     requires below { rank < lead_key lead.now }
     ensures spot { HasSpot lead.now result }
     ensures word { lead_word lead.now result ≡ rank }
@@ -51,36 +46,35 @@ impl<P: Promise> TallyPass<P> {
     pub fn rank(&self) -> u32
         ensures rank { result ≡ (pass_view self.now).rank }
     {
-        self.pass.rank()
+        self.pass.pass.rank()
     }
 
     /// How many ranks there are, each with one word.
     pub fn layout(&self) -> Layout {
-        self.pass.layout()
+        self.pass.pass.layout()
     }
 }
 
 impl TallyPass<Any> {
     ghost use Rattle.bcl_tally.specs.declared.tally.Call.TheVariants.{Add};
-    ghost use Rattle.bcl_tally.specs.Parts.{pass_view, IsOf};
+    ghost use Rattle.bcl_tally.specs.Parts.{pass_view, IsOf, Stands};
 
     /// Adds to the number of a rank, and answers what it was. One fetch_add.
     pub fn add(&mut self, lead: &Lead<Tally>, place: u32, n: u64) -> u64
         requires of { IsOf self.old lead.now }
-        requires shape { IsShaped (lead_key lead.now) (lead_heads lead.now) (lead_layout lead.now) }
         requires place { place < lead_key lead.now }
-        ensures stands { Stands (lead_key lead.now) (pass_view self.old) (pass_view self.new) (event (pass_view self.old).rank (Add place n) (Was result) ∷ []) }
+        ensures stands { Stands lead.now self.old self.new (Add place n) (Was result) }
         ensures of { IsOf self.new lead.now }
         ensures cost { (pass_view self.new).atomics ≡ (pass_view self.old).atomics + 1 }
     {
         self.pass
+            .pass
             .fetch_add::<Brand, Call>(lead, number_of(lead, place), n, &Call::Add { place, n })
     }
 
     /// Adds to the number of a rank, so many times.
     pub fn add_often(&mut self, lead: &Lead<Tally>, place: u32, n: u64, times: u32)
         requires of { IsOf self.old lead.now }
-        requires shape { IsShaped (lead_key lead.now) (lead_heads lead.now) (lead_layout lead.now) }
         requires place { place < lead_key lead.now }
         ensures goes { Goes (lead_key lead.now) (pass_view self.old) (pass_view self.new) }
         ensures of { IsOf self.new lead.now }
@@ -94,17 +88,20 @@ impl TallyPass<Any> {
     /// found it. A won exchange, a fetch_sub, a fetch_or and a fetch_min.
     pub fn touch(&mut self, lead: &Lead<Tally>, place: u32, guess: u64) -> [Result<u64, u64>; 4]
         requires of { IsOf self.old lead.now }
-        requires shape { IsShaped (lead_key lead.now) (lead_heads lead.now) (lead_layout lead.now) }
         requires place { place < lead_key lead.now }
         ensures of { IsOf self.new lead.now }
         ensures rank { (pass_view self.new).rank ≡ (pass_view self.old).rank }
         ensures cost { (pass_view self.new).atomics ≡ (pass_view self.old).atomics + 4 }
     {
         let number = number_of(lead, place);
-        let exchanged = self.pass.cas::<Brand, ()>(lead, number, guess, guess, &());
-        let lowered = self.pass.fetch_sub::<Brand, ()>(lead, number, 0, &());
-        let marked = self.pass.fetch_or::<Brand, ()>(lead, number, 0, &());
+        let exchanged = self
+            .pass
+            .pass
+            .cas::<Brand, ()>(lead, number, guess, guess, &());
+        let lowered = self.pass.pass.fetch_sub::<Brand, ()>(lead, number, 0, &());
+        let marked = self.pass.pass.fetch_or::<Brand, ()>(lead, number, 0, &());
         let least = self
+            .pass
             .pass
             .fetch_min::<Brand, ()>(lead, number, u64::MAX, &());
         [exchanged, Ok(lowered), Ok(marked), Ok(least)]
@@ -113,22 +110,21 @@ impl TallyPass<Any> {
 
 impl TallyPass<Own> {
     ghost use Rattle.bcl_tally.specs.declared.tally.Call.TheVariants.{Swap};
-    ghost use Rattle.bcl_tally.specs.Parts.{pass_view, IsOf};
+    ghost use Rattle.bcl_tally.specs.Parts.{pass_view, IsOf, Stands};
 
     /// Exchanges the number of this rank for another, and answers what it was. A get, and then a put.
     pub fn swap(&mut self, lead: &Lead<Tally>, n: u64) -> u64
         requires of { IsOf self.old lead.now }
-        requires shape { IsShaped (lead_key lead.now) (lead_heads lead.now) (lead_layout lead.now) }
-        ensures stands { Stands (lead_key lead.now) (pass_view self.old) (pass_view self.new) (event (pass_view self.old).rank (Swap (pass_view self.old).rank n) (Was result) ∷ []) }
+        ensures stands { Stands lead.now self.old self.new (Swap (pass_view self.old).rank n) (Was result) }
         ensures of { IsOf self.new lead.now }
         ensures gets { (pass_view self.new).gets ≡ (pass_view self.old).gets + 1 }
         ensures puts { (pass_view self.new).puts ≡ (pass_view self.old).puts + 1 }
     {
         let place = self.rank();
         let number = number_of(lead, place);
-        let old = self.pass.get::<Brand, ()>(lead, number, &());
-        self.pass
-            .put::<Brand, (Call, u64)>(lead, number, n, &(Call::Swap { place, n }, old));
+        let pass = &mut self.pass.pass;
+        let old = pass.get::<Brand, ()>(lead, number, &());
+        pass.put::<Brand, (Call, u64)>(lead, number, n, &(Call::Swap { place, n }, old));
         old
     }
 }

@@ -2,10 +2,10 @@
 
 ghost use Rattle.bcl_phase.specs.Views.{opened};
 ghost use Rattle.bcl_phase.specs.Rule.{Kept};
-ghost use Rattle.bcl_tally.specs.Tally.{ranks, start, next, permits, fits};
+ghost use Rattle.bcl_tally.specs.Tally.{ranks, start, next, permits, is_rest, fits};
 
 use atomic_table::TableRule;
-use bcl_phase::{Any, Grants, Own, Phased, View};
+use bcl_phase::{Any, Grants, Own, Phased, Settles, View};
 use bcl_segment::Rule;
 use std::collections::LinkedList;
 
@@ -49,8 +49,8 @@ impl Rule for Tally {
 }
 
 impl Phased for Tally {
-    ghost use Rattle.std.specs.Prelude.{◌≡◌, refl};
-    ghost use Rattle.bcl_tally.specs.Ranks.{admitted, released, begun_again};
+    ghost use Rattle.std.specs.Prelude.{true, refl};
+    ghost use Rattle.bcl_tally.specs.Ranks.{admitted, released, renewed};
     ghost use Rattle.bcl_tally.specs.declared.tally.Note.TheVariants.{Rest};
 
     type Call = Call;
@@ -63,6 +63,12 @@ impl Phased for Tally {
 
     ghost ranks = { ranks };
 
+    ghost heads = { λ _. 0 };
+
+    ghost layout = { λ k. record { ranks = k; per_rank = 1 } };
+
+    ghost sound = { λ _. true };
+
     ghost start = { start };
 
     ghost next = { next };
@@ -71,9 +77,9 @@ impl Phased for Tally {
 
     ghost rest = { Rest };
 
-    ghost idle = { λ x. x ≡ Rest };
+    ghost idle = { λ _. is_rest };
 
-    ghost rests = { refl };
+    ghost rests = { λ _. refl };
 
     ghost fits = { fits };
 
@@ -81,13 +87,19 @@ impl Phased for Tally {
 
     ghost releases = { released };
 
-    ghost begins = { begun_again };
+    ghost begins = { λ k. renewed k 0 };
 
     ghost from = { λ k s kept. kept };
 
     ghost back = { λ k s kept. kept };
 
     ghost opens = { λ k. refl };
+}
+
+impl Settles for Tally {
+    ghost use Rattle.bcl_tally.specs.Ranks.{renewed};
+
+    ghost settles = { λ k p. renewed k p 0 };
 }
 
 impl Grants<Any> for Tally {}

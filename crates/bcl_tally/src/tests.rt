@@ -1,11 +1,10 @@
 ghost use Rattle.std.specs.Prelude.{◌≡◌, ℕ, ◌<◌, length, IfOk};
 ghost use mathlib.Core.Option.{some};
 ghost use lib.ListN.{get_elem?};
-ghost use Rattle.bcl_phase.specs.Parts.{lead_key, lead_layout, lead_heads};
-ghost use Rattle.bcl_tally.specs.Calls.{IsShaped};
+ghost use Rattle.bcl_phase.specs.Parts.{lead_key};
 ghost use Rattle.bcl_tally.specs.Parts.{pass_view, IsOf};
 
-use crate::{Adder, Tally, TallyPass, clear, open, read, read_both, try_word};
+use crate::{Adder, Tally, TallyPass, clear, open, read, read_both, swap_both, try_word};
 use bcl_phase::{Always, Any, Kit, Lead, Own, superstep};
 use bcl_words::NoMemory;
 use std::alloc::AllocError;
@@ -17,7 +16,6 @@ fn adds(
     mut passes: Vec<TallyPass<Any>>,
 ) -> Result<(Vec<TallyPass<Any>>, [Result<u64, u64>; 4]), AllocError>
     requires one { length passes.items ≡ 1 }
-    requires shape { IsShaped (lead_key lead.now) (lead_heads lead.now) (lead_layout lead.now) }
     requires some_rank { 0 < lead_key lead.now }
     requires dealt { (i : ℕ) (p : _) → get_elem? passes.items i ≡ some p → IsOf p lead.now × ((pass_view p).rank ≡ i) }
     ensures one { IfOk result (λ r. length r.0.items ≡ 1) }
@@ -39,7 +37,6 @@ fn swaps(
     mut passes: Vec<TallyPass<Own>>,
 ) -> Result<(Vec<TallyPass<Own>>, u64), AllocError>
     requires one { length passes.items ≡ 1 }
-    requires shape { IsShaped (lead_key lead.now) (lead_heads lead.now) (lead_layout lead.now) }
     requires dealt { (i : ℕ) (p : _) → get_elem? passes.items i ≡ some p → IsOf p lead.now × ((pass_view p).rank ≡ i) }
     ensures one { IfOk result (λ r. length r.0.items ≡ 1) }
     ensures dealt { IfOk result (λ r. (i : ℕ) (p : _) → get_elem? r.0.items i ≡ some p → IsOf p lead.now × ((pass_view p).rank ≡ i)) }
@@ -114,6 +111,8 @@ fn the_numbers_of_two_ranks_are_read_together(rt: HostRuntime) -> Result<(), Fai
     clear(&mut home, 1, 4);
     assert!(rt; read_both(&mut home, 0, 1) == (3, 4));
     assert!(rt; read_both(&mut home, 1, 1) == (4, 4));
+    swap_both(&mut home, (0, 5), (1, 6));
+    assert!(rt; read_both(&mut home, 0, 1) == (5, 6));
     Ok(())
 }
 

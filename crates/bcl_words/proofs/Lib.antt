@@ -1,5 +1,6 @@
 pub mod ReasonsLemmas
 pub mod WordsPass
+pub mod Fitting
 pub mod NumberReads
 pub mod PairsRead
 pub mod BytesRead

@@ -7,7 +7,7 @@
 //! - `numbers`, `bytes`, `pair`: the types that are objects.
 //! - `merge_law`: laws by which two values become one.
 //! - `laws`: what follows for generic code.
-//! - `hashing`: the hash of a key's words.
+//! - `hashing`: the hash of words, and of a key's own.
 //! - `memory`: want of memory as an error, which every error of std's that says the same turns into by `?`.
 #![tactic(auto)]
 
@@ -23,7 +23,7 @@ mod pair;
 mod tests;
 
 pub use bytes::{Bytes16, Bytes64};
-pub use hashing::hash;
+pub use hashing::{hash, key_hash};
 pub use laws::{any_order, have_same_words, merged_entry, read_back};
 pub use memory::NoMemory;
 pub use merge_law::MergeLaw;

@@ -3,10 +3,9 @@
 ghost use Rattle.std.specs.Prelude.{◌≡◌, ◌≤◌, ◌+◌, ℕ, ⊤, length, IfOk};
 ghost use mathlib.Core.Option.{some};
 ghost use lib.ListN.{get_elem?};
-ghost use Rattle.bcl_words.specs.Words.{Fits};
-ghost use Rattle.bcl_map.specs.Parts.{IsOf};
+ghost use Rattle.bcl_phase.specs.Deals.{IsIn, AreOf};
 
-use bcl_map::{Buckets, Map, MapLead, MapPass, Note, Shape};
+use bcl_map::{Map, MapLead, MapPass};
 use bcl_merge::Sum;
 use bcl_phase::{Find, Kit, Phased};
 use bcl_words::Object;
@@ -16,7 +15,7 @@ use std::alloc::{AllocError, Global};
 #[derive(Drop)]
 pub struct Finder<'a, K: Object, V: Object, L>
 where
-    Map<K, V, L>: Buckets + Phased<Note = Note, Key = Shape>,
+    Map<K, V, L>: Phased,
 {
     lead: &'a MapLead<K, V, L>,
     pass: MapPass<Find, K, V, L>,
@@ -31,8 +30,7 @@ fn find_all<K: Object>(
     pass: &mut MapPass<Find, K, u64, Sum>,
     pairs: &[(K, u64)],
 ) -> u64
-    requires key { Fits K.WORDS }
-    requires of { IsOf pass.old lead.now }
+    requires of { IsIn pass.old.pass lead.now.lead }
 {
     let mut sum = 0u64;
     for pair in pairs {
@@ -44,7 +42,7 @@ fn find_all<K: Object>(
 }
 
 impl<'a> Kit for Finder<'a, u64, u64, Sum> {
-    ghost ready = { λ k. IsOf k.pass k.lead.now };
+    ghost ready = { λ k. IsIn k.pass.pass k.lead.now.lead };
 
     ghost step = { λ _ _. ⊤ };
 
@@ -64,8 +62,8 @@ pub fn finders<'a, K: Object>(
     mut passes: Vec<MapPass<Find, K, u64, Sum>>,
     pairs: &'a [(K, u64)],
 ) -> Result<Vec<Finder<'a, K, u64, Sum>>, AllocError>
-    requires passes { (i : ℕ) (p : _) → get_elem? passes.items i ≡ some p → IsOf p lead.now }
-    ensures kits { IfOk result (λ kits. (i : ℕ) (k : _) → get_elem? kits.items i ≡ some k → IsOf k.pass k.lead.now) }
+    requires passes { AreOf (λ p. p.pass) lead.now.lead passes.items }
+    ensures kits { IfOk result (λ kits. (i : ℕ) (k : _) → get_elem? kits.items i ≡ some k → IsIn k.pass.pass k.lead.now.lead) }
 {
     let mut kits = Vec::new(alloc);
     let mut rest = pairs;

@@ -3,14 +3,13 @@
 ghost use Rattle.std.specs.Prelude.{◌≡◌, ◌+◌, ℕ, All, length, IfOk};
 ghost use mathlib.Core.Option.{some};
 ghost use lib.ListN.{get_elem?};
-ghost use Rattle.bcl_words.specs.Words.{Fits};
 ghost use Rattle.bcl_words.specs.Numbers.{one_word};
 ghost use Rattle.bcl_map.specs.Calls.{IsMine};
-ghost use Rattle.bcl_map.specs.Parts.{pass_view, IsOf};
+ghost use Rattle.bcl_phase.specs.Deals.{view, IsIn, AreOf};
 
-use bcl_map::{Buckets, Inserted, Map, MapLead, MapPass, Note, Shape};
+use bcl_map::{Inserted, Map, MapLead, MapPass};
 use bcl_merge::Sum;
-use bcl_phase::{Kit, Own, Phased};
+use bcl_phase::{Carries, Kit, Own, Phased};
 use bcl_words::Object;
 use std::alloc::{AllocError, Global};
 
@@ -18,7 +17,7 @@ use std::alloc::{AllocError, Global};
 #[derive(Drop)]
 pub struct Inserter<'a, K: Object, V: Object, L>
 where
-    Map<K, V, L>: Buckets + Phased<Note = Note, Key = Shape>,
+    Map<K, V, L>: Phased,
 {
     lead: &'a MapLead<K, V, L>,
     pass: MapPass<Own, K, V, L>,
@@ -34,11 +33,10 @@ fn insert_all<K: Object>(
     pass: &mut MapPass<Own, K, u64, Sum>,
     pairs: &[(K, u64)],
 ) -> u64
-    requires key { Fits K.WORDS }
-    requires of { IsOf pass.old lead.now }
-    requires mine { All (λ pair. IsMine (pass_view pass.old) (K.words pair.0)) pairs.now }
-    ensures of { IsOf pass.new lead.now }
-    ensures rank { (pass_view pass.new).rank ≡ (pass_view pass.old).rank }
+    requires of { IsIn pass.old.pass lead.now.lead }
+    requires mine { All (λ pair. IsMine (view pass.old.pass) (K.words pair.0)) pairs.now }
+    ensures of { IsIn pass.new.pass lead.now.lead }
+    ensures rank { (view pass.new.pass).rank ≡ (view pass.old.pass).rank }
 {
     let mut new = 0u64;
     for pair in pairs {
@@ -50,9 +48,9 @@ fn insert_all<K: Object>(
 }
 
 impl<'a> Kit for Inserter<'a, u64, u64, Sum> {
-    ghost ready = { λ k. IsOf k.pass k.lead.now × All (λ pair. IsMine (pass_view k.pass) (one_word pair.0)) k.pairs.items };
+    ghost ready = { λ k. IsIn k.pass.pass k.lead.now.lead × All (λ pair. IsMine (view k.pass.pass) (one_word pair.0)) k.pairs.items };
 
-    ghost step = { λ k l. (l.lead ≡ k.lead) × IsOf l.pass k.lead.now × ((pass_view l.pass).rank ≡ (pass_view k.pass).rank) };
+    ghost step = { λ k l. (l.lead ≡ k.lead) × IsIn l.pass.pass k.lead.now.lead × ((view l.pass.pass).rank ≡ (view k.pass.pass).rank) };
 
     fn rank(&self) -> u32 {
         self.pass.rank()
@@ -63,14 +61,23 @@ impl<'a> Kit for Inserter<'a, u64, u64, Sum> {
     }
 }
 
+impl<'a> Carries for Inserter<'a, u64, u64, Sum> {
+    type Pass = MapPass<Own, u64, u64, Sum>;
+
+    ghost pass = { λ k. k.pass };
+
+    fn into_pass(self) -> MapPass<Own, u64, u64, Sum> {
+        self.pass
+    }
+}
+
 /// The pairs of a list whose keys have the rank of a pass as their home.
 fn own_pairs<K: Object>(
     alloc: Global,
     pass: &MapPass<Own, K, u64, Sum>,
     pairs: &[(K, u64)],
 ) -> Result<Vec<(K, u64)>, AllocError>
-    requires key { Fits K.WORDS }
-    ensures mine { IfOk result (λ own. All (λ pair. IsMine (pass_view pass.now) (K.words pair.0)) own.items) }
+    ensures mine { IfOk result (λ own. All (λ pair. IsMine (view pass.now.pass) (K.words pair.0)) own.items) }
 {
     let mut own = Vec::new(alloc);
     for pair in pairs {
@@ -88,10 +95,9 @@ pub fn inserters<'a, K: Object>(
     mut passes: Vec<MapPass<Own, K, u64, Sum>>,
     pairs: &[(K, u64)],
 ) -> Result<Vec<Inserter<'a, K, u64, Sum>>, AllocError>
-    requires key { Fits K.WORDS }
-    requires passes { (i : ℕ) (p : _) → get_elem? passes.items i ≡ some p → IsOf p lead.now × ((pass_view p).rank ≡ i) }
+    requires passes { AreOf (λ p. p.pass) lead.now.lead passes.items }
     ensures all { IfOk result (λ kits. length kits.items ≡ length passes.items) }
-    ensures kits { IfOk result (λ kits. (i : ℕ) (k : _) → get_elem? kits.items i ≡ some k → (k.lead.now ≡ lead.entry.now) × IsOf k.pass lead.entry.now × ((pass_view k.pass).rank + i + 1 ≡ length passes.items) × All (λ pair. IsMine (pass_view k.pass) (K.words pair.0)) k.pairs.items) }
+    ensures kits { IfOk result (λ kits. (i : ℕ) (k : _) → get_elem? kits.items i ≡ some k → (k.lead.now ≡ lead.entry.now) × IsIn k.pass.pass lead.entry.now.lead × ((view k.pass.pass).rank + i + 1 ≡ length passes.items) × All (λ pair. IsMine (view k.pass.pass) (K.words pair.0)) k.pairs.items) }
 {
     let mut kits = Vec::new(alloc);
     while let Some(pass) = passes.pop() {
@@ -104,21 +110,4 @@ pub fn inserters<'a, K: Object>(
         })?;
     }
     Ok(kits)
-}
-
-/// The passes of these inserters, in the order of their ranks.
-pub fn passes_of<K: Object>(
-    alloc: Global,
-    lead: &MapLead<K, u64, Sum>,
-    mut kits: Vec<Inserter<K, u64, Sum>>,
-) -> Result<Vec<MapPass<Own, K, u64, Sum>>, AllocError>
-    requires kits { (i : ℕ) (k : _) → get_elem? kits.items i ≡ some k → IsOf k.pass lead.now × ((pass_view k.pass).rank + i + 1 ≡ length kits.items) }
-    ensures all { IfOk result (λ passes. length passes.items ≡ length kits.entry.items) }
-    ensures passes { IfOk result (λ passes. (i : ℕ) (p : _) → get_elem? passes.items i ≡ some p → IsOf p lead.now × ((pass_view p).rank ≡ i)) }
-{
-    let mut passes = Vec::new(alloc);
-    while let Some(kit) = kits.pop() {
-        passes.push(kit.pass)?;
-    }
-    Ok(passes)
 }

@@ -1,17 +1,15 @@
 //! The map of bcl_map.
 
-ghost use Rattle.std.specs.Prelude.{◌≡◌, ◌+◌, ◌*◌, ◌≤◌, ◌^◌, ℕ, length, IfOk};
-ghost use mathlib.Core.Option.{some};
-ghost use lib.ListN.{get_elem?};
+ghost use Rattle.std.specs.Prelude.{◌≡◌, ◌+◌, ◌*◌, ◌≤◌, ◌^◌, IfOk};
 ghost use Rattle.bcl_words.specs.Words.{Fits};
-ghost use Rattle.bcl_map.specs.Parts.{lead_layout, pass_view, IsOf};
+ghost use Rattle.bcl_phase.specs.Deals.{AreAll};
 
 use crate::find::{Finder, finders};
-use crate::insert::{Inserter, inserters, passes_of};
+use crate::insert::{Inserter, inserters};
 use crate::job::{Job, Stage};
 use bcl_map::{MapHome, MapLead, MapPass};
 use bcl_merge::Sum;
-use bcl_phase::{Always, Find, Own, superstep_all};
+use bcl_phase::{Always, Find, Own, passes_of, superstep_all};
 use bcl_words::{NoMemory, Object};
 use std::alloc::Global;
 use std::marker::Sync;
@@ -54,14 +52,10 @@ fn begun<K: Object>(
     requires ranks { (1 ≤ ranks) × (ranks ≤ 64) }
     requires buckets { 1 ≤ per_rank }
     requires words { ranks * per_rank * (1 + (K.WORDS + 1)) ≤ 2 ^ 27 }
-    ensures all { IfOk result (λ r. length r.1.items ≡ (lead_layout r.0).ranks) }
-    ensures of { IfOk result (λ r. (i : ℕ) (p : _) → get_elem? r.1.items i ≡ some p → IsOf p r.0 × ((pass_view p).rank ≡ i)) }
+    ensures all { IfOk result (λ r. AreAll (λ p. p.pass) r.0.lead r.1.items) }
 {
     let home = MapHome::<K, u64, Sum>::new(alloc, ranks, per_rank)?;
-    match home.begin::<Own>(alloc) {
-        Ok(begun) => Ok(begun),
-        Err(_) => Err(NoMemory),
-    }
+    Ok(home.begin::<Own>(alloc)?)
 }
 
 /// The next phase, under Find.
@@ -70,14 +64,10 @@ fn turned<K: Object>(
     lead: MapLead<K, u64, Sum>,
     passes: Vec<MapPass<Own, K, u64, Sum>>,
 ) -> Result<(MapLead<K, u64, Sum>, Vec<MapPass<Find, K, u64, Sum>>), NoMemory>
-    requires all { length passes.items ≡ (lead_layout lead).ranks }
-    requires of { (i : ℕ) (p : _) → get_elem? passes.items i ≡ some p → IsOf p lead × ((pass_view p).rank ≡ i) }
-    ensures of { IfOk result (λ r. (i : ℕ) (p : _) → get_elem? r.1.items i ≡ some p → IsOf p r.0) }
+    requires all { AreAll (λ p. p.pass) lead.lead passes.items }
+    ensures all { IfOk result (λ r. AreAll (λ p. p.pass) r.0.lead r.1.items) }
 {
-    match lead.turn::<Own, Find>(alloc, passes) {
-        Ok(turned) => Ok(turned),
-        Err(_) => Err(NoMemory),
-    }
+    Ok(lead.turn::<Own, Find>(alloc, passes)?)
 }
 
 /// Inserts pairs, each rank its own, and finds keys, each rank its share of them.
@@ -97,7 +87,7 @@ pub fn run<H: Threads + Sync>(
     if job.stage == Stage::Insert {
         return Ok(inserted(&kits));
     }
-    let passes = passes_of(alloc, &lead, kits)?;
+    let passes = passes_of(alloc, &lead.lead, kits)?;
     let (lead, passes) = turned(alloc, lead, passes)?;
     let mut kits = finders(alloc, &lead, passes, wanted)?;
     superstep_all(rt, &mut kits, &Always);

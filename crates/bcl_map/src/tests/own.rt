@@ -1,16 +1,14 @@
 //! Tests of insertions.
 
-ghost use Rattle.std.specs.Prelude.{◌≡◌, ◌≤◌, ◌*◌, ◌^◌, ℕ, length, IfOk};
-ghost use mathlib.Core.Option.{some};
-ghost use lib.ListN.{get_elem?};
+ghost use Rattle.std.specs.Prelude.{◌≡◌, ◌≤◌, ◌*◌, ◌^◌, length, IfOk};
 ghost use Rattle.bcl_words.specs.Words.{Fits};
-ghost use Rattle.bcl_map.specs.Parts.{pass_view, IsOf};
+ghost use Rattle.bcl_phase.specs.Deals.{AreOf};
 
 use super::{Nought, closed};
-use crate::tutorial::{begun, indexers, passes_of, turned};
+use crate::tutorial::{begun, indexers, turned};
 use crate::{ClosedMap, Inserted, MapHome, MapLead, MapPass};
 use bcl_merge::Sum;
-use bcl_phase::{Find, Gate, Own, superstep_all};
+use bcl_phase::{Find, Gate, Own, passes_of, superstep_all};
 use bcl_words::{MergeLaw, Object, Pair};
 use std::alloc::Global;
 use std::marker::Sync;
@@ -25,10 +23,8 @@ fn last_inserts<K: Object, V: Object, L: MergeLaw<V>>(
     key: &K,
     value: &V,
 ) -> Result<Inserted, Fail>
-    requires key { Fits K.WORDS }
-    requires value { Fits V.WORDS }
-    requires of { (i : ℕ) (p : _) → get_elem? passes.old.items i ≡ some p → IsOf p lead.now × ((pass_view p).rank ≡ i) }
-    ensures of { IfOk result (λ _. (i : ℕ) (p : _) → get_elem? passes.new.items i ≡ some p → IsOf p lead.now × ((pass_view p).rank ≡ i)) }
+    requires of { AreOf (λ p. p.pass) lead.now.lead passes.old.items }
+    ensures of { IfOk result (λ _. AreOf (λ p. p.pass) lead.now.lead passes.new.items) }
     ensures all { IfOk result (λ _. length passes.new.items ≡ length passes.old.items) }
 {
     let Some(mut pass) = passes.pop() else {
@@ -48,10 +44,8 @@ fn last_finds<K: Object, V: Object, L: MergeLaw<V>>(
     passes: &mut Vec<MapPass<Own, K, V, L>>,
     key: &K,
 ) -> Result<Option<V>, Fail>
-    requires key { Fits K.WORDS }
-    requires value { Fits V.WORDS }
-    requires of { (i : ℕ) (p : _) → get_elem? passes.old.items i ≡ some p → IsOf p lead.now × ((pass_view p).rank ≡ i) }
-    ensures of { IfOk result (λ _. (i : ℕ) (p : _) → get_elem? passes.new.items i ≡ some p → IsOf p lead.now × ((pass_view p).rank ≡ i)) }
+    requires of { AreOf (λ p. p.pass) lead.now.lead passes.old.items }
+    ensures of { IfOk result (λ _. AreOf (λ p. p.pass) lead.now.lead passes.new.items) }
     ensures all { IfOk result (λ _. length passes.new.items ≡ length passes.old.items) }
 {
     let Some(mut pass) = passes.pop() else {
@@ -71,10 +65,8 @@ fn first_finds<K: Object, V: Object, L: MergeLaw<V>>(
     passes: &mut Vec<MapPass<Find, K, V, L>>,
     key: &K,
 ) -> Result<Option<V>, Fail>
-    requires key { Fits K.WORDS }
-    requires value { Fits V.WORDS }
-    requires of { (i : ℕ) (p : _) → get_elem? passes.old.items i ≡ some p → IsOf p lead.now × ((pass_view p).rank ≡ i) }
-    ensures of { IfOk result (λ _. (i : ℕ) (p : _) → get_elem? passes.new.items i ≡ some p → IsOf p lead.now × ((pass_view p).rank ≡ i)) }
+    requires of { AreOf (λ p. p.pass) lead.now.lead passes.old.items }
+    ensures of { IfOk result (λ _. AreOf (λ p. p.pass) lead.now.lead passes.new.items) }
     ensures all { IfOk result (λ _. length passes.new.items ≡ length passes.old.items) }
 {
     let Some(last) = passes.pop() else {
@@ -231,7 +223,7 @@ fn side_by_side<H: Threads + Sync>(
     for kit in &kits {
         full = full.wrapping_add(kit.full);
     }
-    let passes = passes_of(alloc, &lead, kits)?;
+    let passes = passes_of(alloc, &lead.lead, kits)?;
     let closed = closed(alloc, lead.end::<Own>(passes))?;
     Ok((full, closed))
 }

@@ -6,11 +6,13 @@ use Rattle.bcl_event.specs.declared.array.ArrayReply.TheVariants.{Value}
 use Rattle.bcl_phase.specs.Views.{get}
 use Rattle.bcl_phase.specs.Parts.{lead_key, lead_heads, lead_layout, pass_view}
 use Rattle.bcl_phase.proofs.Calls.{still_refl, still_trans, still_by, stands_one, stands_behind}
+use Rattle.bcl_phase.proofs.Flights.{zeros_next}
 use Rattle.bcl_darray.specs.Array.{ranks, start, next, permits}
 use Rattle.bcl_darray.specs.Fits.{IsFixed}
 use Rattle.bcl_darray.specs.Calls.{HasGot, Stands}
+use Rattle.bcl_darray.proofs.Seated.{shaped_by}
 use Rattle.bcl_darray.proofs.Gets.{got_more, got_all}
-use Rattle.bcl_darray.proofs.Reading.{no_words, word_is, gets_at, got_next, zeros_next, last_word}
+use Rattle.bcl_darray.proofs.Reading.{no_words, word_is, gets_at, got_next, last_word}
 use Rattle.bcl_darray.proofs.item.read_item.Goals as goal
 
 pub loop-j-init : goal.loop-j-init
@@ -30,7 +32,7 @@ get-requires-clause-step g c = let I = c.loop-j.invariant in let lead = c.args.l
     let width = c.WORDS-last.ensures in let j = c.loop-j-test.true in
     let fixed : IsFixed (lead_key lead) v.promise v.rank c.args.index = subst (λ (z : ℕ × ℕ). IsFixed (lead_key lead) z.0 z.1 c.args.index) (λ i. (sym c.loop-j.pass.pass.1 i, sym I.still.same.same_rank i)) c.requires.fixed in
     gets_at g.T.Object.WORDS g.T.Object.passes (lead_key lead) v.promise v.rank c.args.index c.loop-j.j _ c.loop-j.words v.note fixed c.requires.within (omega arith)
-    (word_is g.T.Object.WORDS (lead_heads lead) (lead_layout lead) (lead_key lead) c.args.at c.args.index c.loop-j.j c.word.result c.requires.shape c.requires.at c.word.ensures.spot) I.got
+    (word_is g.T.Object.WORDS (lead_heads lead) (lead_layout lead) (lead_key lead) c.args.at c.args.index c.loop-j.j c.word_of.result (shaped_by _ _ _ _ lead.laid) c.requires.at c.word_of.ensures.spot) I.got
 
 pub loop-j-preserved : goal.loop-j-preserved
 loop-j-preserved g c = let I = c.loop-j.invariant in let step = c.get.ensures in let took = step.took in
@@ -39,9 +41,9 @@ loop-j-preserved g c = let I = c.loop-j.invariant in let step = c.get.ensures in
     let more = got_more g.T.Object.WORDS g.T.Object.passes c.args.index c.loop-j.j u.note c.get.result _ step.told.did v.note (omega arith) step.told.fact in record {
       of = step.of;
       still = still_trans (pass_view c.args.pass.now) u v I.still (still_by ranks start next permits (lead_key c.args.lead.now) get u v _ c.get.result took step.told more.none);
-      got = got_next c.args.index c.loop-j.j c.loop-j.words I.room (omega arith) c.get.result u.note v.note _ step.told.did I.got more;
+      got = got_next c.args.index c.loop-j.j c.loop-j.words c.get.result I.room (omega arith) u.note v.note _ step.told.did I.got more;
       room = length-set c.loop-j.words c.loop-j.j c.get.result ∙ I.room;
-      zeros = zeros_next c.args.index c.loop-j.j c.loop-j.words I.room (omega arith) c.get.result I.zeros;
+      zeros = zeros_next c.loop-j.words c.loop-j.j c.get.result I.zeros;
       gets = omega arith;
       puts = took.puts_rise ∙ I.puts;
       atomics = took.atomics_rise ∙ I.atomics;
@@ -53,7 +55,7 @@ get-requires-2-clause-step g c = let I = c.loop-j.invariant in let lead = c.args
     let fixed : IsFixed (lead_key lead) v.promise v.rank c.args.index = subst (λ (z : ℕ × ℕ). IsFixed (lead_key lead) z.0 z.1 c.args.index) (λ i. (sym c.loop-j.pass.pass.1 i, sym I.still.same.same_rank i)) c.requires.fixed in
     let at : c.loop-j.j ≡ c.WORDS-last.result - 1 = omega arith in
     gets_at g.T.Object.WORDS g.T.Object.passes (lead_key lead) v.promise v.rank c.args.index _ _ c.loop-j.words v.note fixed c.requires.within (omega arith)
-    (word_is g.T.Object.WORDS (lead_heads lead) (lead_layout lead) (lead_key lead) c.args.at c.args.index _ c.word-2.result c.requires.shape c.requires.at c.word-2.ensures.spot) (subst (λ (j : ℕ). HasGot c.args.index j c.loop-j.words v.note) at I.got)
+    (word_is g.T.Object.WORDS (lead_heads lead) (lead_layout lead) (lead_key lead) c.args.at c.args.index _ c.word_of-2.result (shaped_by _ _ _ _ lead.laid) c.requires.at c.word_of-2.ensures.spot) (subst (λ (j : ℕ). HasGot c.args.index j c.loop-j.words v.note) at I.got)
 
 pub unreachable-requires : goal.unreachable-requires
 unreachable-requires g c = let I = c.loop-j.invariant in let step = c.get-2.ensures in let x = (pass_view c.loop-j.pass).note in

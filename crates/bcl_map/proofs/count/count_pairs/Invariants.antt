@@ -1,7 +1,6 @@
 use Rattle.std.proofs.Common.{◌≡◌, ◌<◌, ◌≤◌, length}
 use Rattle.bcl_phase.specs.Parts.{home_view, home_words, home_key, home_layout, IsSameHome}
-use Rattle.bcl_map.specs.Map.{places, size}
-use Rattle.bcl_map.specs.Calls.{IsBucketAt}
+use Rattle.bcl_map.specs.Map.{places}
 use Rattle.bcl_map.specs.Closed.{pairs_to}
 use Rattle.bcl_map.proofs.count.count_pairs.Given as goal
 
@@ -9,7 +8,6 @@ abbrev pub invariant-loop-place : goal.invariant-loop-place
 invariant-loop-place g l = record {
   view : home_view l.home ≡ home_view l.initial.home;
   same : IsSameHome l.initial.home l.home;
-  at : l.place < places (home_key l.initial.home) → IsBucketAt (size g.K.Object.WORDS g.V.Object.WORDS) (home_layout l.initial.home) l.at l.place;
   count : l.count ≡ length (pairs_to g.K.Object.WORDS g.V.Object.WORDS (home_words l.initial.home) l.place);
   few : l.count ≤ l.place;
 }

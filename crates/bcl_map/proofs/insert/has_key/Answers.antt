@@ -15,9 +15,9 @@ get-found-requires-clause-step g c = let I = c.loop-j.invariant in let lead = c.
     let kw = g.K.Object.WORDS in let vw = g.V.Object.WORDS in let op = g.L.MergeLaw.op in
     let width = c.WORDS-j-end.ensures in let low = c.loop-j-test.true in
     let mine : home L k ≡ v.rank = c.requires.mine ∙ sym I.came.still.same.same_rank in
-    subst (λ (p : ℕ). Moves (next op) permits (Holds kw vw g.K.Object.passes g.V.Object.passes) L p v.rank v.note (lead_word lead c.word.result) (λ n. n) (SeesKey kw vw op L (Insert k value) (strays v.note.claims) k d c.loop-j.j v.note)) (sym c.loop-j.pass.pass.1)
+    subst (λ (p : ℕ). Moves (next op) permits (Holds kw vw g.K.Object.passes g.V.Object.passes) L p v.rank v.note (lead_word lead c.word_of.result) (λ n. n) (SeesKey kw vw op L (Insert k value) (strays v.note.claims) k d c.loop-j.j v.note)) (sym c.loop-j.pass.pass.1)
     (match_step kw vw g.K.Object.passes g.V.Object.passes op L (lawful kw vw (lead_heads lead) (lead_layout lead) L c.requires.shape) v.rank (Insert k value) k value d mine mine (inl refl) (strays v.note.claims) c.loop-j.j _ v.note c.requires.key.most c.requires.words (omega arith) (I.matching (omega arith))
-    (word_is kw vw (lead_heads lead) (lead_layout lead) L c.requires.shape c.args.at (path L k d) (1 + c.loop-j.j) c.word.result c.requires.at c.word.ensures.spot))
+    (word_is kw vw (lead_heads lead) (lead_layout lead) L c.requires.shape c.args.at (path L k d) (1 + c.loop-j.j) c.word_of.result c.requires.at c.word_of.ensures.spot))
 
 pub returns-then-found-key-clause-other : goal.returns-then-found-key-clause-other
 returns-then-found-key-clause-other g c _ = let I = c.loop-j.invariant in let step = c.get-found.ensures in let v = pass_view c.loop-j.pass in let w = pass_view c.get-found.new.self in let op = g.L.MergeLaw.op in let L = lead_key c.args.lead.now in let k = c.args.key.now in let d = c.args.number in

@@ -13,16 +13,16 @@ use Rattle.bcl_map.proofs.Replaces.{replace_step}
 use Rattle.bcl_map.proofs.Reached.{replaced_more, replaced_all, ends_still}
 use Rattle.bcl_map.proofs.insert.replace.Goals as goal
 
-pub word-requires : goal.word-requires
-word-requires g c = record { room = let width = c.WORDS.ensures in let some = c.requires.value.least in let all = small g.K.Object.WORDS g.V.Object.WORDS (lead_heads c.args.lead.now) (lead_layout c.args.lead.now) (lead_key c.args.lead.now) c.requires.shape c.args.at _ c.requires.at in omega arith }
+pub word_of-requires : goal.word_of-requires
+word_of-requires g c = record { room = let width = c.WORDS.ensures in let some = c.requires.value.least in let all = small g.K.Object.WORDS g.V.Object.WORDS (lead_heads c.args.lead.now) (lead_layout c.args.lead.now) (lead_key c.args.lead.now) c.requires.shape c.args.at _ c.requires.at in omega arith }
 
 pub put-requires-clause-step : goal.put-requires-clause-step
 put-requires-clause-step g c = let lead = c.args.lead.now in let L = lead_key lead in let v = pass_view c.args.pass.now in let k = c.args.key.now in let d = c.args.number in let value = c.args.value.now in
     let kw = g.K.Object.WORDS in let vw = g.V.Object.WORDS in let op = g.L.MergeLaw.op in
-    subst (λ (p : ℕ). Moves (next op) permits (Holds kw vw g.K.Object.passes g.V.Object.passes) L p v.rank v.note (lead_word lead c.word.result) (λ _. slice_index value 0) (λ _. Replaces kw vw op L (Insert k value) k value d (value_of v.note.claims) v.note)) (sym c.args.pass.now.pass.1)
+    subst (λ (p : ℕ). Moves (next op) permits (Holds kw vw g.K.Object.passes g.V.Object.passes) L p v.rank v.note (lead_word lead c.word_of.result) (λ _. slice_index value 0) (λ _. Replaces kw vw op L (Insert k value) k value d (value_of v.note.claims) v.note)) (sym c.args.pass.now.pass.1)
     (replace_step kw vw g.K.Object.passes g.V.Object.passes op L (lawful kw vw (lead_heads lead) (lead_layout lead) L c.requires.shape) v.rank (Insert k value) k value d c.requires.mine c.requires.mine (value_of v.note.claims) _ _ v.note
     (λ t there. ap (stored (places L) k value (λ old. value) t) there) c.requires.key.most c.requires.value.least c.requires.words.0 c.requires.value_words.0 c.requires.words.1 c.requires.value_words.1 c.requires.reads
-    (word_is kw vw (lead_heads lead) (lead_layout lead) L c.requires.shape c.args.at (path L k d) (1 + c.WORDS.result) c.word.result c.requires.at c.word.ensures.spot ∙ ap (λ (z : ℕ). size kw vw * path L k d + (1 + z)) c.WORDS.ensures) (λ _. slice_index value 0))
+    (word_is kw vw (lead_heads lead) (lead_layout lead) L c.requires.shape c.args.at (path L k d) (1 + c.WORDS.result) c.word_of.result c.requires.at c.word_of.ensures.spot ∙ ap (λ (z : ℕ). size kw vw * path L k d + (1 + z)) c.WORDS.ensures) (λ _. slice_index value 0))
 
 pub returns-then-WORDS-gt1-clause-ends : goal.returns-then-WORDS-gt1-clause-ends
 returns-then-WORDS-gt1-clause-ends g c = let op = g.L.MergeLaw.op in let L = lead_key c.args.lead.now in let k = c.args.key.now in let d = c.args.number in let value = c.args.value.now in let call = Insert k value in

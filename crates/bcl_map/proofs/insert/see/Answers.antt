@@ -14,9 +14,9 @@ use Rattle.bcl_map.proofs.insert.see.Goals as goal
 pub get-requires-clause-step : goal.get-requires-clause-step
 get-requires-clause-step g c = let lead = c.args.lead.now in let L = lead_key lead in let v = pass_view c.args.pass.now in let k = c.args.key.now in let d = c.args.number in let value = c.args.value.now in
     let kw = g.K.Object.WORDS in let vw = g.V.Object.WORDS in let op = g.L.MergeLaw.op in
-    subst (λ (p : ℕ). Moves (next op) permits (Holds kw vw g.K.Object.passes g.V.Object.passes) L p v.rank v.note (lead_word lead c.word.result) (λ n. n) (SeesControl kw vw op L (Insert k value) (strays v.note.claims) k d v.note)) (sym c.args.pass.now.pass.1)
+    subst (λ (p : ℕ). Moves (next op) permits (Holds kw vw g.K.Object.passes g.V.Object.passes) L p v.rank v.note (lead_word lead c.word_of.result) (λ n. n) (SeesControl kw vw op L (Insert k value) (strays v.note.claims) k d v.note)) (sym c.args.pass.now.pass.1)
     (see_step kw vw g.K.Object.passes g.V.Object.passes op L (lawful kw vw (lead_heads lead) (lead_layout lead) L c.requires.shape) v.rank (Insert k value) k value d c.requires.mine c.requires.mine (inl refl) (strays v.note.claims) c.requires.heading.0 _ v.note c.requires.heading.1 c.requires.heading.2
-    (word_is kw vw (lead_heads lead) (lead_layout lead) L c.requires.shape c.args.at (path L k d) 0 c.word.result c.requires.at c.word.ensures.spot))
+    (word_is kw vw (lead_heads lead) (lead_layout lead) L c.requires.shape c.args.at (path L k d) 0 c.word_of.result c.requires.at c.word_of.ensures.spot))
 
 pub returns-clause-some : goal.returns-clause-some
 returns-clause-some g c knows = let next_one : c.args.number + 1 ≡ suc c.args.number = omega arith in c.get.ensures.told.fact.some (subst (λ (n : ℕ). Knows c.args.key.now n (pass_view c.args.pass.now).note.claims) next_one knows)

@@ -19,8 +19,8 @@ ready-requires g c = record { few = let lead = c.args.lead.now in let low = low_
 pub cas-requires-clause-step : goal.cas-requires-clause-step
 cas-requires-clause-step g c = let lead = c.args.lead.now in let L = lead_key lead in let v = pass_view c.args.pass.now in let k = c.args.key.now in let d = c.args.number in let value = c.args.value.now in
     let kw = g.K.Object.WORDS in let vw = g.V.Object.WORDS in let op = g.L.MergeLaw.op in
-    subst (λ (p : ℕ). Moves (next op) permits (Holds kw vw g.K.Object.passes g.V.Object.passes) L p v.rank v.note (lead_word lead c.word.result) (λ n. if n == 0 then c.ready.result else n) (Takes kw vw op L (Insert k value) k value d v.note)) (sym c.args.pass.now.pass.1)
+    subst (λ (p : ℕ). Moves (next op) permits (Holds kw vw g.K.Object.passes g.V.Object.passes) L p v.rank v.note (lead_word lead c.word_of.result) (λ n. if n == 0 then c.ready.result else n) (Takes kw vw op L (Insert k value) k value d v.note)) (sym c.args.pass.now.pass.1)
     (take_step kw vw g.K.Object.passes g.V.Object.passes op L (lawful kw vw (lead_heads lead) (lead_layout lead) L c.requires.shape) v.rank (Insert k value) k value d c.requires.mine c.requires.mine (inl refl) _ _ v.note
     c.requires.number c.requires.words.0 c.requires.value_words.0 c.requires.words.1 c.requires.value_words.1 c.requires.facing.0
-    (word_is kw vw (lead_heads lead) (lead_layout lead) L c.requires.shape c.args.at (path L k d) 0 c.word.result c.requires.at c.word.ensures.spot)
+    (word_is kw vw (lead_heads lead) (lead_layout lead) L c.requires.shape c.args.at (path L k d) 0 c.word_of.result c.requires.at c.word_of.ensures.spot)
     (c.ready.ensures.word ∙ ap (λ (z : ℕ). word_of (record { state = Ready; home = z; readers = 0 })) c.requires.home))

@@ -19,7 +19,7 @@ pub get-control-requires-clause-step : goal.get-control-requires-clause-step
 get-control-requires-clause-step g c = let lead = c.args.lead.now in let v = pass_view c.args.pass.now in let k = c.args.key.now in let d = c.args.number in
     let see : MaySee (lead_key lead) v.promise v.rank k = subst (λ (z : ℕ). MaySee (lead_key lead) z v.rank k) (sym c.args.pass.now.pass.1) c.requires.see in
     control_step g.K.Object.WORDS g.V.Object.WORDS g.K.Object.passes g.V.Object.passes g.L.MergeLaw.op (lead_key lead) (lawful g.K.Object.WORDS g.V.Object.WORDS (lead_heads lead) (lead_layout lead) (lead_key lead) c.requires.shape) v.promise v.rank k d see _ v.note c.requires.walked
-    (word_is g.K.Object.WORDS g.V.Object.WORDS (lead_heads lead) (lead_layout lead) (lead_key lead) c.requires.shape c.args.at (path (lead_key lead) k d) 0 c.word.result c.requires.at c.word.ensures.spot)
+    (word_is g.K.Object.WORDS g.V.Object.WORDS (lead_heads lead) (lead_layout lead) (lead_key lead) c.requires.shape c.args.at (path (lead_key lead) k d) 0 c.word_of.result c.requires.at c.word_of.ensures.spot)
 
 pub returns-then-control-eq0-clause-looks : goal.returns-then-control-eq0-clause-looks
 returns-then-control-eq0-clause-looks g c = let step = c.get-control.ensures in let end = step.told.fact.0.free c.if-control-eq0.true in

@@ -10,7 +10,7 @@ get-found-requires-clause-step g c = let I = c.loop-j.invariant in let lead = c.
     let width = c.WORDS-j-end.ensures in let j = c.loop-j-test.true in
     let see : MaySee (lead_key lead) v.promise v.rank k = subst (λ (z : ℕ × ℕ). MaySee (lead_key lead) z.0 z.1 k) (λ i. (sym c.loop-j.pass.pass.1 i, sym I.still.same.same_rank i)) c.requires.see in
     key_step g.K.Object.WORDS g.V.Object.WORDS g.K.Object.passes g.V.Object.passes g.L.MergeLaw.op (lead_key lead) (lawful g.K.Object.WORDS g.V.Object.WORDS (lead_heads lead) (lead_layout lead) (lead_key lead) c.requires.shape) v.promise v.rank k d see c.loop-j.j _ v.note c.requires.key.most c.requires.words (omega arith) (I.compares (omega arith))
-    (word_is g.K.Object.WORDS g.V.Object.WORDS (lead_heads lead) (lead_layout lead) (lead_key lead) c.requires.shape c.args.at (path (lead_key lead) k d) (1 + c.loop-j.j) c.word.result c.requires.at c.word.ensures.spot)
+    (word_is g.K.Object.WORDS g.V.Object.WORDS (lead_heads lead) (lead_layout lead) (lead_key lead) c.requires.shape c.args.at (path (lead_key lead) k d) (1 + c.loop-j.j) c.word_of.result c.requires.at c.word_of.ensures.spot)
 
 pub returns-then-found-key-clause-other : goal.returns-then-found-key-clause-other
 returns-then-found-key-clause-other g c _ = let step = c.get-found.ensures in let v = pass_view c.loop-j.pass in

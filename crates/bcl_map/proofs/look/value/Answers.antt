@@ -10,7 +10,8 @@ use Rattle.bcl_phase.proofs.Calls.{stands_one, stands_behind}
 use Rattle.bcl_map.specs.Map.{size, path, ranks, first_pairs, next, permits}
 use Rattle.bcl_map.specs.Finds.{MaySee, value_of}
 use Rattle.bcl_map.specs.Calls.{Stands}
-use Rattle.bcl_map.proofs.Looks.{lawful, small, word_is, value_step, whole_object}
+use Rattle.bcl_phase.proofs.Flights.{whole_object}
+use Rattle.bcl_map.proofs.Looks.{lawful, small, word_is, value_step}
 use Rattle.bcl_map.proofs.look.value.Goals as goal
 
 pub get-requires-clause-step : goal.get-requires-clause-step
@@ -19,11 +20,11 @@ get-requires-clause-step g c = let I = c.loop-j.invariant in let lead = c.args.l
     let at : 1 + c.WORDS-first.result + c.loop-j.j ≡ 1 + (g.K.Object.WORDS + c.loop-j.j) = omega arith in
     let see : MaySee (lead_key lead) v.promise v.rank k = subst (λ (z : ℕ × ℕ). MaySee (lead_key lead) z.0 z.1 k) (λ i. (sym c.loop-j.pass.pass.1 i, sym I.still.same.same_rank i)) c.requires.see in
     value_step g.K.Object.WORDS g.V.Object.WORDS g.K.Object.passes g.V.Object.passes g.L.MergeLaw.op (lead_key lead) (lawful g.K.Object.WORDS g.V.Object.WORDS (lead_heads lead) (lead_layout lead) (lead_key lead) c.requires.shape) v.promise v.rank k d see c.loop-j.j _ v.note c.requires.key.most (omega arith) I.reads
-    (word_is g.K.Object.WORDS g.V.Object.WORDS (lead_heads lead) (lead_layout lead) (lead_key lead) c.requires.shape c.args.at (path (lead_key lead) k d) (1 + c.WORDS-first.result + c.loop-j.j) c.word.result c.requires.at c.word.ensures.spot
+    (word_is g.K.Object.WORDS g.V.Object.WORDS (lead_heads lead) (lead_layout lead) (lead_key lead) c.requires.shape c.args.at (path (lead_key lead) k d) (1 + c.WORDS-first.result + c.loop-j.j) c.word_of.result c.requires.at c.word_of.ensures.spot
     ∙ ap (λ (w : ℕ). size g.K.Object.WORDS g.V.Object.WORDS * path (lead_key lead) k d + w) at)
 
-pub word-requires-2 : goal.word-requires-2
-word-requires-2 g c = record { room = let width = c.WORDS-last.ensures in let first = c.WORDS-first.ensures in let some = c.requires.value.least in let all = small g.K.Object.WORDS g.V.Object.WORDS (lead_heads c.args.lead.now) (lead_layout c.args.lead.now) (lead_key c.args.lead.now) c.requires.shape c.args.at _ c.requires.at in omega arith }
+pub word_of-requires-2 : goal.word_of-requires-2
+word_of-requires-2 g c = record { room = let width = c.WORDS-last.ensures in let first = c.WORDS-first.ensures in let some = c.requires.value.least in let all = small g.K.Object.WORDS g.V.Object.WORDS (lead_heads c.args.lead.now) (lead_layout c.args.lead.now) (lead_key c.args.lead.now) c.requires.shape c.args.at _ c.requires.at in omega arith }
 
 pub get-requires-2-clause-step : goal.get-requires-2-clause-step
 get-requires-2-clause-step g c = let I = c.loop-j.invariant in let lead = c.args.lead.now in let v = pass_view c.loop-j.pass in let k = c.args.key.now in let d = c.args.number in
@@ -31,7 +32,7 @@ get-requires-2-clause-step g c = let I = c.loop-j.invariant in let lead = c.args
     let at : 1 + c.WORDS-first.result + (c.WORDS-last.result - 1) ≡ 1 + (g.K.Object.WORDS + (c.WORDS-last.result - 1)) = omega arith in
     let see : MaySee (lead_key lead) v.promise v.rank k = subst (λ (z : ℕ × ℕ). MaySee (lead_key lead) z.0 z.1 k) (λ i. (sym c.loop-j.pass.pass.1 i, sym I.still.same.same_rank i)) c.requires.see in
     value_step g.K.Object.WORDS g.V.Object.WORDS g.K.Object.passes g.V.Object.passes g.L.MergeLaw.op (lead_key lead) (lawful g.K.Object.WORDS g.V.Object.WORDS (lead_heads lead) (lead_layout lead) (lead_key lead) c.requires.shape) v.promise v.rank k d see (c.WORDS-last.result - 1) _ v.note c.requires.key.most (omega arith) I.reads
-    (word_is g.K.Object.WORDS g.V.Object.WORDS (lead_heads lead) (lead_layout lead) (lead_key lead) c.requires.shape c.args.at (path (lead_key lead) k d) (1 + c.WORDS-first.result + (c.WORDS-last.result - 1)) c.word-2.result c.requires.at c.word-2.ensures.spot
+    (word_is g.K.Object.WORDS g.V.Object.WORDS (lead_heads lead) (lead_layout lead) (lead_key lead) c.requires.shape c.args.at (path (lead_key lead) k d) (1 + c.WORDS-first.result + (c.WORDS-last.result - 1)) c.word_of-2.result c.requires.at c.word_of-2.ensures.spot
     ∙ ap (λ (w : ℕ). size g.K.Object.WORDS g.V.Object.WORDS * path (lead_key lead) k d + w) at)
 
 pub unreachable-requires : goal.unreachable-requires

@@ -1,8 +1,7 @@
 use Rattle.std.proofs.Common.{◌≡◌, ◌<◌, ◌≤◌, length}
 use Rattle.std.specs.Prelude.{vec_capacity}
 use Rattle.bcl_phase.specs.Parts.{home_view, home_words, home_key, home_layout, IsSameHome}
-use Rattle.bcl_map.specs.Map.{places, size}
-use Rattle.bcl_map.specs.Calls.{IsBucketAt}
+use Rattle.bcl_map.specs.Map.{places}
 use Rattle.bcl_map.specs.Closed.{pairs_to, in_words}
 use Rattle.bcl_map.proofs.pairs.list_pairs.Given as goal
 
@@ -10,7 +9,6 @@ abbrev pub invariant-loop-place : goal.invariant-loop-place
 invariant-loop-place g l = record {
   view : home_view l.home ≡ home_view l.initial.home;
   same : IsSameHome l.initial.home l.home;
-  at : l.place < places (home_key l.initial.home) → IsBucketAt (size g.K.Object.WORDS g.V.Object.WORDS) (home_layout l.initial.home) l.at l.place;
   pairs : in_words g.K.Object.words g.V.Object.words l.pairs.items ≡ pairs_to g.K.Object.WORDS g.V.Object.WORDS (home_words l.initial.home) l.place;
   room : length (pairs_to g.K.Object.WORDS g.V.Object.WORDS (home_words l.initial.home) (places (home_key l.initial.home))) ≤ vec_capacity l.pairs;
 }

@@ -1,6 +1,5 @@
 use Rattle.std.proofs.Common.{◌≡◌, ◌+◌, ◌<◌, ◌≤◌, ℕ, length, slice_index}
-use Rattle.bcl_segment.specs.Places.{place_of}
-use Rattle.bcl_phase.specs.Parts.{home_view, home_words, home_layout, IsSameHome}
+use Rattle.bcl_phase.specs.Parts.{home_view, home_words, IsSameHome}
 use Rattle.bcl_map.proofs.pairs.read_object.Given as goal
 
 abbrev pub invariant-loop-j : goal.invariant-loop-j
@@ -8,6 +7,6 @@ invariant-loop-j g l = record {
   view : home_view l.home ≡ home_view l.initial.home;
   same : IsSameHome l.initial.home l.home;
   len : length l.words ≡ 8;
-  read : (b : ℕ) → b < l.j → slice_index l.words b ≡ slice_index (home_words l.initial.home) (place_of (home_layout l.initial.home) l.at + l.first + b);
+  read : (b : ℕ) → b < l.j → slice_index l.words b ≡ slice_index (home_words l.initial.home) (l.at + l.first + b);
   zeros : (b : ℕ) → l.j ≤ b → slice_index l.words b ≡ 0;
 }

@@ -4,7 +4,7 @@ use Rattle.bcl_segment.specs.Parts.{table_of, key_of, view_of, number_of}
 use Rattle.bcl_phase.specs.Phases.{begun}
 use Rattle.bcl_phase.specs.Parts.{pass_view, pass_table, pass_layout}
 use Rattle.bcl_phase.proofs.Homes.{splits}
-use Rattle.bcl_phase.proofs.Returns.{placed, cut_is, recounted}
+use Rattle.bcl_phase.proofs.Returns.{own_cut, laid_as, placed, cut_is, recounted}
 use Rattle.bcl_phase.proofs.begin.deal.Goals as goal
 
 pub split-pass-requires-clause-rule : goal.split-pass-requires-clause-rule
@@ -28,5 +28,11 @@ loop-rank-preserved g c = let h = c.requires.home in let I = c.loop-rank.invaria
       count = more ∙ ap (λ (z : ℕ). z + 1) count;
       room = le_trans room c.in-Ok.ensures.capacity;
       dealt = placed _ c.loop-rank.passes.items _ c.wrap.result c.in-Ok.ensures.items I.dealt
-          ((λ i. pass_table (held i)) ∙ (ap table_of c.seated.ensures.seat ∙ split.new), (λ i. pass_layout (held i)) ∙ c.seated.ensures.layout, (λ i. pass_view (held i)) ∙ (ap view_of c.seated.ensures.seat ∙ at));
+          ((λ i. pass_table (held i).pass) ∙ (ap table_of c.seated.ensures.seat ∙ split.new), (λ i. pass_layout (held i).pass) ∙ c.seated.ensures.layout, (λ i. pass_view (held i).pass) ∙ (ap view_of c.seated.ensures.seat ∙ at));
     }
+
+pub seated-requires-clause-laid : goal.seated-requires-clause-laid
+seated-requires-clause-laid g c = laid_as _ _ _ _ (key_of c.args.segments.now) _ ((λ i. (c.split-pass.ensures.right i).key) ∙ ((λ i. (c.loop-rank.invariant.view i).key) ∙ c.requires.home.0.2)) c.requires.laid
+
+pub seated-requires-clause-own : goal.seated-requires-clause-own
+seated-requires-clause-own g c = own_cut _ (view_of c.loop-rank.seat) _ c.split-pass.ensures.right

@@ -12,5 +12,5 @@ invariant-loop-rank g l = record {
   view : view_of l.seat ≡ record (view_of l.initial.seat) { passes = l.rank };
   count : length l.passes.items ≡ l.rank;
   room : l.initial.layout.ranks ≤ vec_capacity l.passes;
-  dealt : (i : ℕ) (p : _) → get_elem? l.passes.items i ≡ some p → (pass_table (g.W.Wraps.inner p) ≡ id_of l.segments) × (pass_layout (g.W.Wraps.inner p) ≡ l.initial.layout) × (pass_view (g.W.Wraps.inner p) ≡ begun g.R.Phased.rest g.P.Promise.CODE (key_of l.segments) (view_of l.initial.seat).seen i);
+  dealt : (i : ℕ) (p : _) → get_elem? l.passes.items i ≡ some p → (pass_table (g.W.Wraps.inner p).pass ≡ id_of l.segments) × (pass_layout (g.W.Wraps.inner p).pass ≡ l.initial.layout) × (pass_view (g.W.Wraps.inner p).pass ≡ begun g.R.Phased.rest g.P.Promise.CODE (key_of l.segments) (view_of l.initial.seat).seen i);
 }

@@ -1,10 +1,10 @@
 use Rattle.std.proofs.Common.{◌≡◌}
-use Rattle.bcl_map.specs.Parts.{pass_view, IsOf}
+use Rattle.bcl_phase.specs.Deals.{view, IsIn}
 use Rattle.map_bench.proofs.insert.insert_all.Given as goal
 
 abbrev pub invariant-loop-pair : goal.invariant-loop-pair
 invariant-loop-pair g l = record {
-  of : IsOf l.pass l.lead;
-  key : (pass_view l.pass).key ≡ (pass_view l.initial.pass).key;
-  rank : (pass_view l.pass).rank ≡ (pass_view l.initial.pass).rank;
+  of : IsIn l.pass.pass l.lead.lead;
+  key : (view l.pass.pass).key ≡ (view l.initial.pass.pass).key;
+  rank : (view l.pass.pass).rank ≡ (view l.initial.pass.pass).rank;
 }

@@ -4,4 +4,4 @@ use Rattle.bcl_bloom.specs.Calls.{bits_of, Answers}
 use Rattle.bcl_bloom.proofs.pass.FilterPass+Any+K.find.Given as goal
 
 abbrev pub ghosts-get : goal.ghosts-get
-ghosts-get g a = record { then = λ n t did _. Answers g.K.Object.WORDS g.K.Object.words (lead_key a.lead.now) (Find a.about.now) (bits_of g.K.Object.WORDS g.K.Object.words a.about.now) n t did }
+ghosts-get g a = record { then = λ n t did _. Answers g.K.Object.WORDS (lead_key a.lead.now) (Find (g.K.Object.words a.about.now)) (bits_of g.K.Object.WORDS (g.K.Object.words a.about.now)) n t did }

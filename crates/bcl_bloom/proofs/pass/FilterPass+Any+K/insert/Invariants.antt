@@ -4,4 +4,4 @@ use Rattle.bcl_bloom.specs.Calls.{bits_of, Answers}
 use Rattle.bcl_bloom.proofs.pass.FilterPass+Any+K.insert.Given as goal
 
 abbrev pub ghosts-fetch_or : goal.ghosts-fetch_or
-ghosts-fetch_or g a = record { then = λ n t did _. Answers g.K.Object.WORDS g.K.Object.words (lead_key a.lead.now) (Insert a.about.now) (bits_of g.K.Object.WORDS g.K.Object.words a.about.now) n t did }
+ghosts-fetch_or g a = record { then = λ n t did _. Answers g.K.Object.WORDS (lead_key a.lead.now) (Insert (g.K.Object.words a.about.now)) (bits_of g.K.Object.WORDS (g.K.Object.words a.about.now)) n t did }

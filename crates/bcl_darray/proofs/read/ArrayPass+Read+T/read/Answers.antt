@@ -1,14 +1,19 @@
-use Rattle.std.proofs.Common.{ℕ, ◌*◌, ◌<◌, ◌∙◌, ap, sym, subst}
-use Rattle.bcl_segment.specs.declared.layout.Layout.{Layout}
-use Rattle.bcl_segment.specs.Places.{places}
+use Rattle.std.proofs.Common.{◌≡◌, ℕ, ◌*◌, ap, arith}
+use Rattle.bcl_words.proofs.Fitting.{fits_of}
 use Rattle.bcl_phase.specs.Parts.{lead_key, lead_heads, lead_layout}
-use Rattle.bcl_darray.proofs.Blocks.{words_there, read_stands}
+use Rattle.bcl_darray.proofs.Seated.{shaped_by}
+use Rattle.bcl_darray.proofs.Blocks.{words_there, item_stands}
 use Rattle.bcl_darray.proofs.read.ArrayPass+Read+T.read.Goals as goal
 
-pub ptr-at-requires-clause-within : goal.ptr-at-requires-clause-within
-ptr-at-requires-clause-within g c = let lead = c.args.lead.now in
-    subst (λ (z : ℕ × Layout). c.args.index * z.0 < places z.1) (λ i. (sym c.WORDS.ensures i, sym (c.layout.ensures.layout ∙ c.requires.of.2) i)) (words_there g.T.Object.WORDS (lead_heads lead.lead) (lead_layout lead.lead) (lead_key lead.lead) lead.shape c.requires.fits.least c.args.index c.requires.within)
+pub overflow_mul-at : goal.overflow_mul-at
+overflow_mul-at g c = let lead = c.args.lead.now.lead in let shaped = shaped_by g.T.Object.WORDS (lead_heads lead) (lead_layout lead) (lead_key lead) lead.laid in record {
+  fits = let wide : c.args.index * c.WORDS.result ≡ c.args.index * g.T.Object.WORDS = ap (λ (w : ℕ). c.args.index * w) c.WORDS.ensures in let few = shaped.few in
+      let there = words_there g.T.Object.WORDS (lead_heads lead) (lead_layout lead) (lead_key lead) shaped (fits_of g.T.Object.WORDS lead.laid.sound).least c.args.index c.requires.within in omega arith;
+}
 
 pub read_item-requires-clause-at : goal.read_item-requires-clause-at
-read_item-requires-clause-at g c κs outlives = let lead = c.args.lead.now in let at = c.ptr-at.ensures in
-    read_stands g.T.Object.WORDS (lead_heads lead.lead) (lead_layout lead.lead) (lead_key lead.lead) lead.shape c.requires.fits.least c.layout.result c.ptr-at.result c.args.index (c.layout.ensures.layout ∙ c.requires.of.2) at.points (at.undone ∙ ap (λ (w : ℕ). c.args.index * w) c.WORDS.ensures)
+read_item-requires-clause-at g c κs outlives = let lead = c.args.lead.now.lead in
+    item_stands g.T.Object.WORDS (lead_heads lead) (lead_layout lead) (lead_key lead) (shaped_by g.T.Object.WORDS (lead_heads lead) (lead_layout lead) (lead_key lead) lead.laid) (fits_of g.T.Object.WORDS lead.laid.sound).least _ c.args.index c.requires.within (ap (λ (w : ℕ). c.args.index * w) c.WORDS.ensures)
+
+pub read_item-requires-clause-fits : goal.read_item-requires-clause-fits
+read_item-requires-clause-fits g c κs outlives = fits_of g.T.Object.WORDS c.args.lead.now.lead.laid.sound

@@ -5,6 +5,7 @@ use Rattle.bcl_phase.specs.Parts.{home_view, home_words, home_key, closed_view}
 use Rattle.bcl_map.specs.Map.{places}
 use Rattle.bcl_map.specs.Calls.{MapView}
 use Rattle.bcl_map.specs.Closed.{pairs_to, in_words}
+use Rattle.bcl_map.proofs.Seated.{key_fits, value_fits}
 use Rattle.bcl_map.proofs.Closes.{replay_of, once_of}
 use Rattle.bcl_map.proofs.home.MapHome.close.Goals as goal
 
@@ -18,6 +19,6 @@ invariant_of-result-2 g c = let kw = g.K.Object.WORDS in let vw = g.V.Object.WOR
     let of : w.key ≡ Some L = c.close.ensures.key ∙ ap Some (listed.same.1 ∙ same) in
     let entries : Pairs = in_words g.K.Object.words g.V.Object.words c.list_pairs-pairs.result.items in
     let are : entries ≡ pairs_to kw vw ws (places L) = listed.pairs ∙ (λ i. pairs_to kw vw (words_of (counted.view i)) (places (same i))) in record {
-      replay = replay_of kw vw g.K.Object.passes g.V.Object.passes g.L.MergeLaw.op L v w ws c.learn.ensures.fit c.requires.key.most c.requires.value.most seen words of entries are;
-      once = once_of kw vw g.K.Object.passes g.V.Object.passes g.L.MergeLaw.op L v w ws c.learn.ensures.fit c.requires.key.most c.requires.value.most seen words of entries are;
+      replay = replay_of kw vw g.K.Object.passes g.V.Object.passes g.L.MergeLaw.op L v w 0 ws c.learn.ensures.fit (key_fits kw vw L c.args.self.home.owned.laid.sound).most (value_fits kw vw L c.args.self.home.owned.laid.sound).most seen words of entries are;
+      once = once_of kw vw g.K.Object.passes g.V.Object.passes g.L.MergeLaw.op L v w 0 ws c.learn.ensures.fit (key_fits kw vw L c.args.self.home.owned.laid.sound).most (value_fits kw vw L c.args.self.home.owned.laid.sound).most seen words of entries are;
     }

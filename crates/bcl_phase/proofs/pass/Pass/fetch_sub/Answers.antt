@@ -1,17 +1,19 @@
 use Rattle.std.proofs.Common.{◌∙◌}
 use Rattle.std.specs.Prelude.{◌+◌, ◌-◌, ◌%◌, ◌^◌}
+use base.Growing.{prefix_refl}
 use Rattle.bcl_segment.specs.Parts.{number_of, key_of, view_of, word_of}
 use Rattle.bcl_phase.specs.Views.{atomic}
+use Rattle.bcl_phase.proofs.Returns.{stepped}
 use Rattle.bcl_phase.proofs.Keeps.{moves}
 use Rattle.bcl_phase.proofs.pass.Pass.fetch_sub.Goals as goal
 
 pub fetch_sub-requires-clause-rule : goal.fetch_sub-requires-clause-rule
 fetch_sub-requires-clause-rule g c = let it = c.args.self.now in let segments = c.args.lead.now.segments in
-    moves _ _ _ _ _ (key_of segments) g.R.TableRule.holds g.met.R.Phased.from g.met.R.Phased.back (number_of it.seat) atomic (view_of it.seat) (word_of segments c.args.spot) (λ n. (n + (2 ^ 64 - c.args.word)) % 2 ^ 64) g.M.Learns.then it.pass.0 c.requires.of.1 c.requires.step
+    moves _ _ _ _ _ (key_of segments) g.R.TableRule.holds g.met.R.Phased.from g.met.R.Phased.back (number_of it.seat) atomic (view_of it.seat) (word_of segments c.args.spot) (λ n. (n + (2 ^ 64 - c.args.word)) % 2 ^ 64) (λ _. (view_of it.seat).found) g.M.Learns.then it.pass.0 c.requires.of.1 (λ _. prefix_refl (view_of it.seat).found) c.requires.step
 
 pub invariant_of-self : goal.invariant_of-self
-invariant_of-self g c = let took = (c.fetch_sub.ensures.told _ c.requires.of.1).0 in let pass = c.args.self.now.pass in
-    record { pass = (took.same_role ∙ pass.0, took.same_promise ∙ pass.1, took.same_rank ∙ pass.2); within = c.args.self.now.within }
+invariant_of-self g c = let it = c.args.self.now in let told = c.fetch_sub.ensures.told _ c.requires.of.1 in
+    let after = stepped _ _ _ _ _ it.layout _ atomic it.seat c.fetch_sub.new.seat told.0 it.pass it.laid c.requires.of.1 in record { pass = after.0; within = it.within; own = told.0.own; laid = after.1 }
 
 pub returns-clause-told : goal.returns-clause-told
 returns-clause-told g c = (c.fetch_sub.ensures.told _ c.requires.of.1).1
@@ -19,6 +21,9 @@ returns-clause-told g c = (c.fetch_sub.ensures.told _ c.requires.of.1).1
 pub returns-clause-took : goal.returns-clause-took
 returns-clause-took g c = (c.fetch_sub.ensures.told _ c.requires.of.1).0
 
+pub returns-clause-found : goal.returns-clause-found
+returns-clause-found g c = (c.fetch_sub.ensures.told _ c.requires.of.1).2
+
 pub returns-clause-of : goal.returns-clause-of
-returns-clause-of g c = let took = (c.fetch_sub.ensures.told _ c.requires.of.1).0 in
-    (c.fetch_sub.ensures.same.0 ∙ c.requires.of.0, took.same_key ∙ c.requires.of.1, c.requires.of.2)
+returns-clause-of g c = let it = c.args.self.now in
+    (c.fetch_sub.ensures.same.0 ∙ c.requires.of.0, (stepped _ _ _ _ _ it.layout _ atomic it.seat c.fetch_sub.new.seat (c.fetch_sub.ensures.told _ c.requires.of.1).0 it.pass it.laid c.requires.of.1).2, c.requires.of.2)

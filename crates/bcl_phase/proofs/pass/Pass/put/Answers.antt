@@ -1,6 +1,7 @@
 use Rattle.std.proofs.Common.{◌∙◌}
 use Rattle.bcl_segment.specs.Parts.{number_of, key_of, view_of, word_of}
 use Rattle.bcl_phase.specs.Views.{put}
+use Rattle.bcl_phase.proofs.Returns.{stepped}
 use Rattle.bcl_phase.proofs.Keeps.{puts}
 use Rattle.bcl_phase.proofs.pass.Pass.put.Goals as goal
 
@@ -9,8 +10,8 @@ put-requires-clause-rule g c = let it = c.args.self.now in let segments = c.args
     puts _ _ _ _ _ (key_of segments) g.R.TableRule.holds g.met.R.Phased.from g.met.R.Phased.back (number_of it.seat) put (view_of it.seat) (word_of segments c.args.spot) c.args.word g.M.Learns.then it.pass.0 c.requires.of.1 c.requires.step
 
 pub invariant_of-self : goal.invariant_of-self
-invariant_of-self g c = let took = (c.put.ensures.told _ c.requires.of.1).0 in let pass = c.args.self.now.pass in
-    record { pass = (took.same_role ∙ pass.0, took.same_promise ∙ pass.1, took.same_rank ∙ pass.2); within = c.args.self.now.within }
+invariant_of-self g c = let it = c.args.self.now in let told = c.put.ensures.told _ c.requires.of.1 in
+    let after = stepped _ _ _ _ _ it.layout _ put it.seat c.put.new.seat told.0 it.pass it.laid c.requires.of.1 in record { pass = after.0; within = it.within; own = told.0.own; laid = after.1 }
 
 pub returns-clause-told : goal.returns-clause-told
 returns-clause-told g c = (c.put.ensures.told _ c.requires.of.1).1
@@ -18,6 +19,9 @@ returns-clause-told g c = (c.put.ensures.told _ c.requires.of.1).1
 pub returns-clause-took : goal.returns-clause-took
 returns-clause-took g c = (c.put.ensures.told _ c.requires.of.1).0
 
+pub returns-clause-found : goal.returns-clause-found
+returns-clause-found g c = (c.put.ensures.told _ c.requires.of.1).2
+
 pub returns-clause-of : goal.returns-clause-of
-returns-clause-of g c = let took = (c.put.ensures.told _ c.requires.of.1).0 in
-    (c.put.ensures.same.0 ∙ c.requires.of.0, took.same_key ∙ c.requires.of.1, c.requires.of.2)
+returns-clause-of g c = let it = c.args.self.now in
+    (c.put.ensures.same.0 ∙ c.requires.of.0, (stepped _ _ _ _ _ it.layout _ put it.seat c.put.new.seat (c.put.ensures.told _ c.requires.of.1).0 it.pass it.laid c.requires.of.1).2, c.requires.of.2)

@@ -1,12 +1,12 @@
 use Rattle.std.proofs.Common.{◌∙◌}
 use Rattle.std.specs.Prelude.{◌==◌, ◌+◌, ◌-◌, ◌%◌, ◌^◌, if◌then◌else◌, bit_or, min}
 use Rattle.bcl_phase.specs.Parts.{lead_key, pass_view}
-use Rattle.bcl_tally.proofs.Fits.{stays_at, traded, lowered, marked, least}
+use Rattle.bcl_tally.proofs.Fits.{at_rest, stays_at, traded, lowered, marked, least}
 use Rattle.bcl_tally.proofs.pass.TallyPass+Any.touch.Goals as goal
 
 pub cas-exchanged-requires-clause-step : goal.cas-exchanged-requires-clause-step
-cas-exchanged-requires-clause-step c = let v = pass_view c.args.self.now.pass in
-    stays_at (lead_key c.args.lead.now) v.promise v.rank _ (λ m. if m == c.args.guess then c.args.guess else m) v.note c.args.self.now.rest (λ m _. traded c.args.guess m)
+cas-exchanged-requires-clause-step c = let v = pass_view c.args.self.now.pass.pass in
+    stays_at (lead_key c.args.lead.now) v.promise v.rank _ (λ m. if m == c.args.guess then c.args.guess else m) v.note (at_rest _ c.args.self.now.pass.idle) (λ m _. traded c.args.guess m)
 
 pub fetch_sub-lowered-requires-clause-step : goal.fetch_sub-lowered-requires-clause-step
 fetch_sub-lowered-requires-clause-step c = let v = pass_view c.cas-exchanged.new.self in

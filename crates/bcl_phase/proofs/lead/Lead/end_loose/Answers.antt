@@ -1,0 +1,24 @@
+use Rattle.std.proofs.Common.{rules}
+use Rattle.bcl_segment.specs.Parts.{number_of, key_of, view_of}
+use Rattle.bcl_phase.specs.Parts.{pass_view}
+use Rattle.bcl_phase.proofs.LooseHomes.{closes_loose}
+use Rattle.bcl_phase.proofs.Returns.{told, ended_of, returned_of}
+use Rattle.bcl_phase.proofs.lead.Lead.end_loose.Goals as goal
+
+pub get-requires-clause-rule : goal.get-requires-clause-rule
+get-requires-clause-rule g c = let it = c.gather-segments.result in let back = c.gather-segments.ensures.back in
+    closes_loose _ _ _ _ _ g.R.Phased.rest (key_of it.segments) g.R.TableRule.holds g.met.R.Phased.from g.met.R.Phased.back (number_of it.seat) (view_of it.seat) _
+    it.seated.1 back.none back.whole it.seated.2
+
+pub returns : goal.returns
+returns g c = let back = c.gather-segments.ensures.back in let told = c.get.ensures.told in let it = c.gather-segments.result in let v = view_of it.seat in let same = c.gather-segments.ensures.same in
+    let closed = told.2 _ it.seated.2 in record {
+      ends = record {
+        same = search rules;
+        ends = record {
+          ended = ended_of _ _ _ _ _ _ v _ _ _ closed.0 same.1 back.promise back.start (λ i. (told.1 i).seen);
+          returned = λ i p at. returned_of v _ _ i (pass_view (g.W.Wraps.inner p).pass) (closed.0.returned i _ (back.back i p at)) back.start (λ i. (told.1 i).seen);
+        };
+        fit = search rules;
+      };
+    }
