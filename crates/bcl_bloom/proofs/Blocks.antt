@@ -7,9 +7,6 @@ use Rattle.std.proofs.lemmas.Bool.{false≢true}
 use Rattle.std.proofs.lemmas.Bool.Decides.{Decides-eqb}
 use Rattle.std.proofs.lemmas.List.Elements.{All-nil, All-cons}
 use lib.Seq.{set-get_or}
-use Rattle.std.proofs.Common.{arith, rules}
-use Rattle.std.proofs.lemmas.Bool.Decides.{nat_tests}
-use Rattle.bcl_words.specs.Words.{Fits}
 use Rattle.bcl_words.specs.Hash.{hash_of}
 use Rattle.bcl_segment.specs.declared.layout.Layout.{Layout}
 use Rattle.bcl_segment.specs.declared.layout.Spot.{Spot}

@@ -1,7 +1,6 @@
 -- Where the items of a rank's block stand.
-use Rattle.std.proofs.Common.{◌≡◌, ℕ, ◌+◌, ◌*◌, ◌-◌, ◌/◌, ◌^◌, ◌<◌, ◌≤◌, sym, ap, ◌∙◌, subst, ⊎_elim, arith, Some}
-use Rattle.std.proofs.lemmas.Bool.{cases_lt}
-use Rattle.std.proofs.Math.Nat.{mul_assoc, add-mul, mul-le-mul_left, mul-le-mul_right, le-mul_of_pos_right, le_of_mul-le-mul_right, mul-div_cancel, div-mul-le_self, lt-mul-div-succ, div-eq_of_lt-le}
+use Rattle.std.proofs.Common.{◌≡◌, ℕ, ◌+◌, ◌*◌, ◌-◌, ◌/◌, ◌^◌, ◌<◌, ◌≤◌, sym, ap, ◌∙◌, subst, arith, Some}
+use Rattle.std.proofs.Math.Nat.{mul_assoc, add-mul, mul-le-mul_left, mul-le-mul_right, le-mul_of_pos_right, mul-div_cancel, div-mul-le_self, lt-mul-div-succ, div-eq_of_lt-le}
 use Rattle.bcl_segment.specs.declared.layout.Layout.{Layout}
 use Rattle.bcl_segment.specs.Places.{places}
 use Rattle.bcl_darray.specs.declared.array.Shape.{Shape}

@@ -1,5 +1,4 @@
 -- What a contract sees of an array's home, of its lead and of its passes, and when a pass is of a lead.
-use Rattle.std.specs.Prelude.{◌≡◌}
 use Rattle.bcl_segment.specs.declared.layout.Layout.{Layout}
 use Rattle.bcl_phase.specs.declared.phased.Phased.{Ghosts}
 use Rattle.bcl_phase.specs.declared.view.View.{View}
@@ -15,9 +14,6 @@ module _ {V C A T X L : Type 0} {g : Ghosts (Array V) C A T X L} where
 
   abbrev pub home_key : ArrayHome V C A T X L g → L
   home_key home = phase.home_key home.home
-
-  abbrev pub lead_view : ArrayLead V C A T X L g → View C A X L
-  lead_view lead = phase.lead_view lead.lead
 
   abbrev pub lead_key : ArrayLead V C A T X L g → L
   lead_key lead = phase.lead_key lead.lead

@@ -8,7 +8,7 @@ ghost use Rattle.bcl_darray.specs.Array.{size};
 ghost use Rattle.bcl_darray.specs.Parts.{lead_key, lead_layout, pass_view, IsOf};
 
 use crate::{ArrayHome, ArrayLead, ArrayPass};
-use bcl_phase::{Always, Any, Kit, Read, superstep_all};
+use bcl_phase::{Always, Any, Carries, Kit, Read, passes_of, superstep_all};
 use std::alloc::{AllocError, Global};
 use std::test::Fail;
 
@@ -31,6 +31,16 @@ impl<'a> Kit for Voter<'a> {
 
     fn part(&mut self) {
         self.pass.fetch_add(self.lead, self.candidate, 1);
+    }
+}
+
+impl<'a> Carries for Voter<'a> {
+    type Pass = ArrayPass<Any, u64>;
+
+    ghost pass = { λ k. k.pass };
+
+    fn into_pass(self) -> ArrayPass<Any, u64> {
+        self.pass
     }
 }
 
@@ -57,23 +67,6 @@ fn voters<'a>(
     Ok(kits)
 }
 
-// The passes of these voters, in the order of their ranks.
-fn passes_of(
-    alloc: Global,
-    lead: &ArrayLead<u64>,
-    mut kits: Vec<Voter>,
-) -> Result<Vec<ArrayPass<Any, u64>>, AllocError>
-    requires kits { (i : ℕ) (k : _) → get_elem? kits.items i ≡ some k → IsOf k.pass lead.now × ((pass_view k.pass).rank + i + 1 ≡ length kits.items) }
-    ensures all { IfOk result (λ passes. length passes.items ≡ length kits.entry.items) }
-    ensures passes { IfOk result (λ passes. (i : ℕ) (p : _) → get_elem? passes.items i ≡ some p → IsOf p lead.now × ((pass_view p).rank ≡ i)) }
-{
-    let mut passes = Vec::new(alloc);
-    while let Some(kit) = kits.pop() {
-        passes.push(kit.pass)?;
-    }
-    Ok(passes)
-}
-
 #[test]
 fn votes_are_counted_side_by_side(rt: HostRuntime) -> Result<(), Fail> {
     // Four ranks with one number each, all 0.
@@ -89,7 +82,7 @@ fn votes_are_counted_side_by_side(rt: HostRuntime) -> Result<(), Fail> {
     superstep_all(&rt, &mut kits, &Always);
 
     // No rank has a pass after this: it is the barrier.
-    let passes = passes_of(rt.alloc(), &lead, kits)?;
+    let passes = passes_of(rt.alloc(), &lead.lead, kits)?;
     let Ok((lead, mut passes)) = lead.turn::<Any, Read>(rt.alloc(), passes) else {
         return Err(Fail::new("no memory"));
     };

@@ -1,11 +1,10 @@
 -- How the word of the gauge steps, and how a phase of it ends.
-use Rattle.std.proofs.Common.{◌≡◌, ◌≢◌, ℕ, ◌+◌, ◌<◌, ◌≤◌, List, [], ◌∷◌, length, slice_index, slice_set, refl, sym, ap, ◌∙◌, subst, arith, length-set, get_or-set_same}
-use Rattle.std.specs.Prelude.{◌^◌, max, min, Option}
+use Rattle.std.proofs.Common.{◌≡◌, ◌≢◌, ℕ, ◌<◌, ◌≤◌, List, [], ◌∷◌, length, slice_index, slice_set, refl, sym, ap, ◌∙◌, subst, arith, length-set}
+use Rattle.std.specs.Prelude.{◌^◌, min, Option}
 use Rattle.std.proofs.lemmas.List.Elements.{All-nil, All-cons}
 use Rattle.bcl_phase.specs.Rule.{Moves, Rests}
 use lib.Seq.{set-get_or}
 use Rattle.bcl_gauge.specs.declared.gauge.Shape.{Shape}
-use Rattle.bcl_gauge.specs.declared.gauge.Call.{Call}
 use Rattle.bcl_gauge.specs.declared.gauge.Call.TheVariants.{Lower}
 use Rattle.bcl_gauge.specs.Gauge.{next, permits, fits}
 

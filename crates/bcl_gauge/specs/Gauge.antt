@@ -1,6 +1,6 @@
 -- The gauge: its sequential object, and what its word means.
 -- Within a phase the word may be below the floor, and the number is the floor then. At home the word is the number.
-use Rattle.std.specs.Prelude.{◌≡◌, ℕ, ◌≤◌, ◌<◌, ◌^◌, List, [], ◌∷◌, length, max, min, slice_index}
+use Rattle.std.specs.Prelude.{◌≡◌, ℕ, ◌≤◌, ◌<◌, ◌^◌, List, [], length, max, min, slice_index}
 use Rattle.bcl_event.specs.declared.event.Event.{Event}
 use Rattle.bcl_event.specs.History.{state_after}
 use Rattle.bcl_gauge.specs.declared.gauge.Shape.{Shape}

@@ -1,6 +1,6 @@
 //! How a gauge is opened and read, and how its phase ends.
 
-ghost use Rattle.std.specs.Prelude.{◌≡◌, ◌≤◌, [], IfOk, IfErr};
+ghost use Rattle.std.specs.Prelude.{◌≡◌, ◌+◌, ◌≤◌, [], IfOk, IfErr};
 ghost use Rattle.bcl_phase.specs.Parts.{home_view, home_key, lead_key, IsSameHome};
 ghost use Rattle.bcl_phase.specs.Deals.{AreAll, Ends, Turns};
 ghost use Rattle.bcl_gauge.specs.Gauge.{number};
@@ -29,6 +29,7 @@ pub fn read(home: &mut Home<Gauge>) -> u64
     ensures value { result ≡ number (home_key home.old) (home_view home.old).seen }
     ensures seen { (home_view home.new).seen ≡ (home_view home.old).seen }
     ensures same { IsSameHome home.old home.new }
+    ensures cost { (home_view home.new).gets ≡ (home_view home.old).gets + 1 }
 {
     home.get::<Brand, ()>(Spot::Head(0), &())
 }

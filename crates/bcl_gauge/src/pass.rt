@@ -1,7 +1,6 @@
 //! One rank's part in a phase of a gauge, and its call.
 
-ghost use Rattle.std.specs.Prelude.{◌≡◌, ◌+◌};
-ghost use Rattle.bcl_phase.specs.Deals.{view, IsIn, Stands};
+ghost use Rattle.bcl_phase.specs.Deals.{IsIn, Stands, Makes};
 ghost use Rattle.bcl_gauge.specs.declared.gauge.Call.TheVariants.{Lower};
 
 use crate::gauge::{Call, Gauge};
@@ -35,7 +34,7 @@ impl GaugePass<Any> {
         requires of { IsIn self.old.pass lead.now }
         ensures stands { Stands lead.now self.old.pass self.new.pass (Lower n) tt }
         ensures of { IsIn self.new.pass lead.now }
-        ensures cost { (view self.new.pass).atomics ≡ (view self.old.pass).atomics + 1 }
+        ensures cost { Makes 0 0 1 self.old.pass self.new.pass }
     {
         let pass = &mut self.pass.pass;
         pass.fetch_min::<Brand, u64>(lead, Spot::Head(0), n, &n);

@@ -1,8 +1,6 @@
 -- The steps of a look at a bucket, as its code takes them.
-use Rattle.std.proofs.Common.{◌≡◌, ℕ, ◌+◌, ◌*◌, ◌^◌, ◌<◌, ◌≤◌, List, [], ◌∷◌, length, slice_index, slice_set, sym, ap, ◌∙◌, subst, ⊎_elim, arith, length-set, get_or-set_other}
+use Rattle.std.proofs.Common.{◌≡◌, ℕ, ◌+◌, ◌*◌, ◌^◌, ◌<◌, ◌≤◌, List, [], ◌∷◌, slice_index, sym, ap, ◌∙◌, subst, arith}
 use Rattle.std.specs.Prelude.{Bool}
-use Rattle.std.proofs.lemmas.Bool.{cases_lt}
-use Rattle.std.proofs.lemmas.Grind.{same_number_lists}
 use Rattle.std.proofs.Math.Nat.{mul-pos}
 use Rattle.bcl_words.specs.Words.{IsWords}
 use Rattle.bcl_segment.specs.declared.layout.Layout.{Layout}

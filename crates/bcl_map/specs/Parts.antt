@@ -25,9 +25,6 @@ module _ {K V L C A T X S : Type 0} {g : Ghosts (Map K V L) C A T X S} where
   abbrev pub IsAsBefore : MapHome K V L C A T X S g → MapHome K V L C A T X S g → Type 0
   IsAsBefore old new = phase.IsSameHome old.home new.home × (home_view new ≡ home_view old)
 
-  abbrev pub lead_view : MapLead K V L C A T X S g → View C A X S
-  lead_view lead = phase.lead_view lead.lead
-
   abbrev pub lead_key : MapLead K V L C A T X S g → S
   lead_key lead = phase.lead_key lead.lead
 

@@ -1,5 +1,5 @@
 -- The home keeps the rule as it cuts passes, takes them back, begins a phase, and steps alone.
-use Rattle.std.proofs.Common.{◌≡◌, ◌≢◌, ℕ, zero, suc, ◌+◌, ◌<◌, ◌≤◌, List, [], ◌∷◌, ◌++◌, length, slice_index, slice_set, set, refl, sym, ap, ◌∙◌, subst, ⊎_elim, arith, le_refl, ◌⊎◌, inl, inr, Some, None, Bool, true, false}
+use Rattle.std.proofs.Common.{◌≡◌, ◌≢◌, ℕ, zero, suc, ◌+◌, ◌<◌, ◌≤◌, List, [], ◌∷◌, ◌++◌, length, slice_index, slice_set, set, refl, sym, ap, ◌∙◌, subst, ⊎_elim, arith, le_refl, ◌⊎◌, inl, inr, Some, None, Bool, false}
 use Rattle.std.specs.List.{All}
 use Rattle.std.proofs.lemmas.Option.{none-some}
 use Rattle.std.proofs.lemmas.Bool.{false≢true}

@@ -1,6 +1,6 @@
 //! Passes that kits carry.
 
-ghost use Rattle.std.specs.Prelude.{◌≡◌, ◌+◌, ℕ, length, IfOk};
+ghost use Rattle.std.specs.Prelude.{◌≡◌, ◌+◌, ℕ, map, reverse, length, IfOk};
 ghost use mathlib.Core.Option.{some};
 ghost use lib.ListN.{get_elem?};
 ghost use Rattle.bcl_phase.specs.Parts.{lead_layout};
@@ -32,6 +32,7 @@ pub fn passes_of<R: Phased, P: Promise, W: Wraps<Inner = Rested<R, P>>, K: Carri
 ) -> Result<Vec<W>, NoMemory>
     requires count { length kits.items ≡ (lead_layout lead.now).ranks }
     requires kits { (i : ℕ) (k : _) → get_elem? kits.items i ≡ some k → IsIn (W.inner (K.pass k)) lead.now × ((view (W.inner (K.pass k))).rank + i + 1 ≡ length kits.items) }
+    ensures carried { IfOk result (λ passes. reverse passes.items ≡ map K.pass kits.items) }
     ensures all { IfOk result (λ passes. AreAll W.inner lead.now passes.items) }
 {
     let mut passes = Vec::with_capacity(alloc, kits.len())?;

@@ -1,6 +1,6 @@
 //! The last of a list of passes, lent.
 
-ghost use Rattle.std.specs.Prelude.{◌≡◌, length};
+ghost use Rattle.std.specs.Prelude.{◌≡◌, List, [], ◌∷◌, ◌++◌, length, IfSome, IfNone};
 ghost use denote.Ref.{MutBor};
 ghost use Rattle.bcl_phase.specs.Deals.{view, IsIn, AreOf};
 
@@ -18,6 +18,8 @@ pub fn with_last<R: Phased, P: Promise, W: Wraps<Inner = Rested<R, P>>, A, F: Fn
     requires of { AreOf W.inner lead.now passes.old.items }
     requires ready { (w : MutBor W) → IsIn (W.inner w.now) lead.now → F.pre f w }
     requires keeps { (w v : MutBor W) (a : A) → IsIn (W.inner w.now) lead.now → F.post f w a v → IsIn (W.inner v.now) lead.now × ((view (W.inner v.now)).rank ≡ (view (W.inner w.now)).rank) }
+    ensures lent { IfSome result (λ a. (ws : List W) × (w : MutBor W) × (v : MutBor W) × (passes.old.items ≡ ws ++ w.now ∷ []) × (passes.new.items ≡ ws ++ v.now ∷ []) × F.post f w a v) }
+    ensures none { IfNone result ((passes.old.items ≡ []) × (passes.new.items ≡ [])) }
     ensures of { AreOf W.inner lead.now passes.new.items }
     ensures count { length passes.new.items ≡ length passes.old.items }
 {

@@ -22,8 +22,9 @@
 //! - `phased`: what a container says of itself, and `specs/Rule.antt` the rule that its words keep.
 //! - `promise`: the nine promises.
 //! - `home`, `lead`, `pass`: the three who hold seats. `specs/Parts.antt` says what a contract sees of them. `wraps`: a
-//!   container's own pass, over that of the phase.
-//! - `begin`, `end`, `turn`: how a phase begins and ends, by `specs/Phases.antt`.
+//!   container's own pass, over that of the phase. `rested`: a pass between two calls, which is what `wraps` deals in.
+//! - `begin`, `end`, `turn`: how a phase begins and ends, by `specs/Phases.antt` and, in the words that every container
+//!   cites, `specs/Deals.antt`.
 //! - `learns`, `steps`: the steps of a pass, and what each tells, by `specs/Told.antt`. `alone`: the steps of a home.
 //!   `known`: how a home knows its words, and closes. `loose`: a home whose words need not fit.
 //! - `specs/Stands.antt`: what the contract of every container's call cites. `specs/Found.antt`: what a pass has looked at.
@@ -32,7 +33,8 @@
 //!   list of passes, lent.
 //! - `told`: the same in the words of the segments. `refused`: want of memory.
 //!
-//! `bcl_tally` is the smallest container, and uses all of it.
+//! `bcl_tally` is the smallest container. `bcl_gauge` is the smallest that sets its words right at the end of a phase. The
+//! two use all of it.
 #![tactic(auto)]
 
 mod alone;

@@ -23,7 +23,9 @@ pub struct Layout {
 /// A number costs no arithmetic at the step. A pointer costs a multiplication.
 #[derive(Clone, Copy, Debug, PartialEq, Eq)]
 pub enum Spot {
+    /// The word with this number: a head word, or one behind them.
     Head(u32),
+    /// The word that a pointer names.
     At(GlobalPtr),
 }
 

@@ -27,9 +27,16 @@ pub record IsBusy (place : ℕ) (seen : Seen) (old new : View Call Reply Note �
   pub lost : seen.first ≢ seen.second → HasLooked 1 ((place, seen.first) ∷ (place, seen.second) ∷ []) old new
   pub one : seen.first ≢ seen.second → new.atomics ≡ old.atomics + 1
 
+-- a number that a try at a place found even was added to
+pub record IsAdded (k place n was : ℕ) (old new : View Call Reply Note ℕ) : Type 0 where
+  pub stands : phase.Stands ranks start next permits k old new (event old.rank (Add place n) (Was was) ∷ [])
+  pub even : was % 2 ≡ 0
+  pub looked : HasLooked 1 ((place, was) ∷ []) old new
+  pub one : new.atomics ≡ old.atomics + 1
+
 -- what became of a try
 abbrev pub Tried : ℕ → ℕ → ℕ → View Call Reply Note ℕ → View Call Reply Note ℕ → TryAdd → Type 0
-Tried k place n old new (Added was) = phase.Stands ranks start next permits k old new (event old.rank (Add place n) (Was was) ∷ [])
+Tried k place n old new (Added was) = IsAdded k place n was old new
 Tried k place n old new (Busy seen) = IsBusy place seen old new
 
 -- an exchange of a number for a sum, won where it is the number got

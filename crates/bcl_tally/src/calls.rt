@@ -32,6 +32,7 @@ pub fn read(home: &mut Home<Tally>, place: u32) -> u64
     ensures knows { Knows (home_view home.old) (home_view home.new) place result }
     ensures seen { (home_view home.new).seen ≡ (home_view home.old).seen }
     ensures same { IsSameHome home.old home.new }
+    ensures cost { (home_view home.new).gets ≡ (home_view home.old).gets + 1 }
 {
     home.get::<Brand, u32>(
         Spot::At(GlobalPtr {
@@ -48,6 +49,7 @@ pub fn read_both(home: &mut Home<Tally>, first: u32, second: u32) -> (u64, u64)
     ensures together { (ws : List ℕ) × ((home_view home.new).words ≡ Some ws) × (result.0 ≡ slice_index ws first) × (result.1 ≡ slice_index ws second) }
     ensures seen { (home_view home.new).seen ≡ (home_view home.old).seen }
     ensures same { IsSameHome home.old home.new }
+    ensures cost { (home_view home.new).gets ≡ (home_view home.old).gets + 2 }
 {
     let one = read(home, first);
     let other = read(home, second);
@@ -59,6 +61,7 @@ pub fn clear(home: &mut Home<Tally>, place: u32, n: u64)
     requires place { place < home_key home.old }
     ensures seen { (home_view home.new).seen ≡ (home_view home.old).seen ++ events (next (home_key home.old)) (home_view home.old).rank (numbers (home_key home.old) (home_view home.old).seen) (Swap place 0 ∷ Swap place n ∷ []) }
     ensures same { IsSameHome home.old home.new }
+    ensures cost { (home_view home.new).puts ≡ (home_view home.old).puts + 1 }
 {
     home.put::<Brand, (u32, u64)>(
         Spot::At(GlobalPtr {

@@ -1,4 +1,4 @@
-//! The smallest container: one number for each rank. It shows each part of a phase in use, and tests them.
+//! The smallest container: one number for each rank. It shows the parts of a phase in use, and tests them.
 //!
 //! - `tally`: its calls, replies and notes, and its rule.
 //! - `pass`: an addition of one step under `Any`, and an exchange of two steps under `Own`, with a call in flight between

@@ -85,7 +85,7 @@ impl TallyPass<Any> {
     }
 
     /// Makes a step of each other kind on the number of a rank, none of which changes it, and answers the number as each
-    /// found it. A won exchange, a fetch_sub, a fetch_or and a fetch_min.
+    /// found it. An exchange of `guess` for itself, a fetch_sub, a fetch_or and a fetch_min.
     pub fn touch(&mut self, lead: &Lead<Tally>, place: u32, guess: u64) -> [Result<u64, u64>; 4]
         requires of { IsOf self.old lead.now }
         requires place { place < lead_key lead.now }

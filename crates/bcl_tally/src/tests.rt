@@ -4,7 +4,9 @@ ghost use lib.ListN.{get_elem?};
 ghost use Rattle.bcl_phase.specs.Parts.{lead_key};
 ghost use Rattle.bcl_tally.specs.Parts.{pass_view, IsOf};
 
-use crate::{Adder, Tally, TallyPass, clear, open, read, read_both, swap_both, try_word};
+use crate::{
+    Adder, Seen, Tally, TallyPass, TryAdd, clear, open, read, read_both, swap_both, try_word,
+};
 use bcl_phase::{Always, Any, Kit, Lead, Own, superstep};
 use bcl_words::NoMemory;
 use std::alloc::AllocError;
@@ -123,5 +125,25 @@ fn a_word_is_as_it_was_once_it_was_tried(rt: HostRuntime) -> Result<(), Fail> {
     let (mut home, found) = try_word(home, 1, 9);
     assert_eq!(rt; found, 9);
     assert!(rt; read_both(&mut home, 0, 1) == (0, 4));
+    Ok(())
+}
+
+#[test]
+fn a_try_adds_to_an_even_number_alone(rt: HostRuntime) -> Result<(), Fail> {
+    let home = open(rt.alloc(), 1)?;
+    let Ok((lead, mut passes)) = home.begin::<Any, TallyPass<Any>>(rt.alloc()) else {
+        return Err(NoMemory.into());
+    };
+    let Some(mut pass) = passes.pop() else {
+        unreachable!()
+    };
+    assert!(rt; pass.try_add(&lead, 0, 3) == TryAdd::Added(0));
+    assert!(rt;
+        pass.try_add(&lead, 0, 1)
+            == TryAdd::Busy(Seen {
+                first: 3,
+                second: 3
+            })
+    );
     Ok(())
 }

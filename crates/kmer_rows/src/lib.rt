@@ -1,7 +1,8 @@
 //! The text of a count, from counts that are sorted, however they were counted.
 //!
 //! Its one contract for the layer above: `push_rows` writes a row for each entry of a list that is counted often enough,
-//! and by `rows_are_the_text` the rows of all counts of the lines are the text of the count.
+//! and by `rows_are_the_text` the rows of all counts of the lines are the text of the count, where the minimum is at least
+//! 1.
 //!
 //! - `rows`: the rows of a list of counts.
 //! - `law`: that they are the text of the count.

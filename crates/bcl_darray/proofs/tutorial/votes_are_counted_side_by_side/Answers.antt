@@ -13,17 +13,10 @@ superstep_all-requires-clause-ready g c κs = let four : size (lead_key c.in-Ok.
 
 pub passes_of-requires : goal.passes_of-requires
 passes_of-requires g c = record {
+  count = zip_long _ c.in_ok-kits.kits.items _ c.superstep_all.ensures.steps ∙ (c.in_ok-kits.ensures.all ∙ c.in-Ok.ensures.begins.begins.all.count);
   kits = λ i k at. let was = zip_at _ c.in_ok-kits.kits.items _ c.superstep_all.ensures.steps i k at in let it = c.in_ok-kits.ensures.kits i was.0 was.1 in
       let same = zip_long _ c.in_ok-kits.kits.items _ c.superstep_all.ensures.steps in let all = c.in_ok-kits.ensures.all in let rank = was.2.2 in let turn = it.3 in
       (subst (λ lead. IsOf k.pass lead) it.0 was.2.1, omega arith);
-}
-
-pub turn-requires : goal.turn-requires
-turn-requires g c = record {
-  all = record {
-    count = c.in_ok-passes.ensures.all ∙ zip_long _ c.in_ok-kits.kits.items _ c.superstep_all.ensures.steps ∙ c.in_ok-kits.ensures.all ∙ c.in-Ok.ensures.begins.begins.all.count;
-    of = c.in_ok-passes.ensures.passes;
-  };
 }
 
 pub read-requires-clause-of : goal.read-requires-clause-of

@@ -1,4 +1,4 @@
-use Rattle.std.proofs.Common.{◌≡◌, replicate, refl, ap, ◌∙◌, arith}
+use Rattle.std.proofs.Common.{◌≡◌, replicate}
 use Rattle.bcl_gauge.proofs.Steps.{fresh}
 use Rattle.bcl_gauge.proofs.calls.open.Goals as goal
 

@@ -1,6 +1,5 @@
-use Rattle.std.proofs.Common.{◌≡◌, ◌<◌, ◌≤◌, length}
-use Rattle.bcl_phase.specs.Parts.{home_view, home_words, home_key, home_layout, IsSameHome}
-use Rattle.bcl_map.specs.Map.{places}
+use Rattle.std.proofs.Common.{◌≡◌, ◌≤◌, length}
+use Rattle.bcl_phase.specs.Parts.{home_view, home_words, IsSameHome}
 use Rattle.bcl_map.specs.Closed.{pairs_to}
 use Rattle.bcl_map.proofs.count.count_pairs.Given as goal
 

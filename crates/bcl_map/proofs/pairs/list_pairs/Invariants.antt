@@ -1,6 +1,6 @@
-use Rattle.std.proofs.Common.{◌≡◌, ◌<◌, ◌≤◌, length}
+use Rattle.std.proofs.Common.{◌≡◌, ◌≤◌, length}
 use Rattle.std.specs.Prelude.{vec_capacity}
-use Rattle.bcl_phase.specs.Parts.{home_view, home_words, home_key, home_layout, IsSameHome}
+use Rattle.bcl_phase.specs.Parts.{home_view, home_words, home_key, IsSameHome}
 use Rattle.bcl_map.specs.Map.{places}
 use Rattle.bcl_map.specs.Closed.{pairs_to, in_words}
 use Rattle.bcl_map.proofs.pairs.list_pairs.Given as goal

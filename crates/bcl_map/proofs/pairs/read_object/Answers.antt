@@ -1,7 +1,6 @@
-use Rattle.std.proofs.Common.{◌≡◌, ℕ, ◌+◌, refl, sym, ap, ◌∙◌, arith}
+use Rattle.std.proofs.Common.{◌+◌, refl, sym, ap, ◌∙◌, arith}
 use Rattle.std.proofs.lemmas.Bool.{false≢true}
 use Rattle.bcl_phase.specs.Parts.{home_words}
-use Rattle.bcl_map.specs.Closed.{object}
 use Rattle.bcl_map.proofs.Objects.{object_read}
 use Rattle.bcl_map.proofs.pairs.read_object.Goals as goal
 

@@ -1,4 +1,4 @@
-use Rattle.std.proofs.Common.{◌≡◌, ◌≢◌, refl, sym, ◌∙◌, arith}
+use Rattle.std.proofs.Common.{◌≡◌, refl, arith}
 use Rattle.bcl_phase.specs.Views.{atomic}
 use Rattle.bcl_phase.specs.Parts.{lead_key, pass_view}
 use Rattle.bcl_phase.proofs.Calls.{stands_one}

@@ -1,9 +1,9 @@
-use Rattle.std.proofs.Common.{◌≡◌, ◌∙◌, sym, ap, subst, refl, Some, slice_set}
-use Rattle.std.specs.Prelude.{false, []}
+use Rattle.std.proofs.Common.{◌≡◌, ◌∙◌, sym, subst, Some, slice_set}
+use Rattle.std.specs.Prelude.{[]}
 use Rattle.bcl_event.specs.History.{state_after}
 use Rattle.bcl_segment.specs.Parts.{number_of, key_of, view_of, word_of}
 use Rattle.bcl_phase.specs.declared.view.View.{View}
-use Rattle.bcl_phase.specs.Views.{put, words_of, loosened, loose_after, gone_on}
+use Rattle.bcl_phase.specs.Views.{put, words_of, loosened, loose_after}
 use Rattle.bcl_phase.proofs.LooseHomes.{loosens, loose_puts, pair_puts, MendTold}
 use Rattle.bcl_phase.proofs.home.Home.put_both.Goals as goal
 

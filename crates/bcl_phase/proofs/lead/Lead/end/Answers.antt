@@ -2,7 +2,7 @@ use Rattle.std.proofs.Common.{rules}
 use Rattle.bcl_segment.specs.Parts.{number_of, key_of, view_of}
 use Rattle.bcl_phase.specs.Parts.{pass_view}
 use Rattle.bcl_phase.proofs.Homes.{turns}
-use Rattle.bcl_phase.proofs.Returns.{told, ended_of, returned_of}
+use Rattle.bcl_phase.proofs.Returns.{ended_of, returned_of}
 use Rattle.bcl_phase.proofs.lead.Lead.end.Goals as goal
 
 pub get-requires-clause-rule : goal.get-requires-clause-rule

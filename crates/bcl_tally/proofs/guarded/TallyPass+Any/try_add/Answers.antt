@@ -1,4 +1,4 @@
-use Rattle.std.proofs.Common.{◌≡◌, ◌≢◌, ℕ, ◌*◌, ◌+◌, ◌%◌, List, [], ◌∷◌, refl, sym, ap, ◌∙◌, subst, ⊎_elim, arith}
+use Rattle.std.proofs.Common.{◌≡◌, ◌≢◌, ℕ, ◌+◌, ◌%◌, [], ◌∷◌, refl, sym, ap, ◌∙◌, subst, ⊎_elim, arith}
 use Rattle.std.proofs.lemmas.Bool.{cases_eq}
 use Rattle.bcl_event.specs.History.{event}
 use Rattle.bcl_segment.specs.Steps.{found_by}
@@ -8,7 +8,7 @@ use Rattle.bcl_phase.specs.Stands.{Still}
 use Rattle.bcl_phase.specs.Parts.{lead_key, pass_view}
 use Rattle.bcl_phase.specs.Found.{HasLooked}
 use Rattle.bcl_phase.proofs.Calls.{stands_one, still_by, still_trans, stands_behind}
-use Rattle.bcl_phase.proofs.Found.{looked_at, looked_trans}
+use Rattle.bcl_phase.proofs.Found.{looked_at, looked_refl, looked_trans}
 use Rattle.bcl_tally.specs.declared.tally.Call.TheVariants.{Add}
 use Rattle.bcl_tally.specs.declared.tally.Reply.TheVariants.{Was}
 use Rattle.bcl_tally.specs.Tally.{ranks, start, next, permits, is_rest}
@@ -45,10 +45,16 @@ pub returns-in-Ok-clause-tried : goal.returns-in-Ok-clause-tried
 returns-in-Ok-clause-tried c = let k = lead_key c.args.lead.now in let got = c.get-first.ensures in let done = c.in-Ok.ensures in
     let u = pass_view c.args.self.now.pass.pass in let v = pass_view c.get-first.new.self in let w = pass_view c.cas.new.self in
     let quiet : Still u v = still_by ranks start next permits k get u v _ c.get-first.result got.took got.told got.told.fact.0 in
-    let made = done.told.fact.0 done.ok in
+    let made = done.told.fact.0 done.ok in let word : _ ≡ c.args.place = c.number_of-number.ensures.word in
     let one : phase.Stands ranks start next permits k v w (event v.rank (Add c.args.place c.args.n) (Was c.in-Ok.was) ∷ []) =
     stands_one ranks start next permits k atomic v w _ c.in-Ok.was (Add c.args.place c.args.n) (Was c.in-Ok.was) done.took done.told made.0 made.1 in
-    subst (λ (z : ℕ). phase.Stands ranks start next permits k u w (event z (Add c.args.place c.args.n) (Was c.in-Ok.was) ∷ [])) got.took.same_rank (stands_behind ranks start next permits k u v w _ quiet one)
+    let same : c.in-Ok.was ≡ c.get-first.result = done.ok in let odd : c.get-first.result % 2 ≢ 1 = c.if-first-eq1.false in record {
+      stands = subst (λ (z : ℕ). phase.Stands ranks start next permits k u w (event z (Add c.args.place c.args.n) (Was c.in-Ok.was) ∷ [])) got.took.same_rank (stands_behind ranks start next permits k u v w _ quiet one);
+      even = omega arith;
+      looked = subst (λ (z : ℕ). HasLooked 1 ((c.args.place, z) ∷ []) u w) (sym same)
+          (looked_trans 1 u v w _ _ (looked_at 1 u v _ c.args.place c.get-first.result (omega arith) (omega arith) got.found) (looked_refl 1 v w done.found));
+      one = done.took.atomics_rise ∙ ap (λ (z : ℕ). z + 1) got.took.atomics_rise;
+    }
 
 pub returns-in-Err-clause-tried : goal.returns-in-Err-clause-tried
 returns-in-Err-clause-tried c = let k = lead_key c.args.lead.now in let got = c.get-first.ensures in let done = c.in-Err.ensures in let word : _ ≡ c.args.place = c.number_of-number.ensures.word in
