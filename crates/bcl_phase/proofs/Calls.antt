@@ -10,7 +10,7 @@ use Rattle.bcl_phase.specs.declared.view.View.{View}
 use Rattle.bcl_phase.specs.Views.{Tick, get, put, atomic, gets_after, puts_after, atomics_after, seen_by}
 use Rattle.bcl_phase.specs.Rule.{IsPermitted}
 use Rattle.bcl_phase.specs.Told.{Took, Told}
-use Rattle.bcl_phase.specs.Stands.{GoesOn, Still, Sees, Goes, Stands, Ran}
+use Rattle.bcl_phase.specs.Stands.{GoesOn, Still, Sees, Goes, Stands, EndsWith, Ran}
 
 -- a count never falls
 gets_risen : (t : Tick) (n : ℕ) → n ≤ gets_after t n
@@ -154,35 +154,60 @@ module _ {C A X K T : Type 0} (ranks : K → ℕ) (start : K → T) (next : K �
   pub ran_goes : (v w : View C A X K) (es : List (Event C A)) → Ran ranks start next permits k v w es → Goes ranks permits k v w
   ran_goes v w es a = record { same = a.same; sees = a.sees; mine = (es, sym a.mine) }
 
-  pub stands_ran : (v w : View C A X K) (es : List (Event C A)) → Stands ranks start next permits k v w es → Ran ranks start next permits k v w es
-  stands_ran v w es a = record {
-    legal = a.legal;
-    last = last_of es v.seen w.seen a.before a.last a.none;
-    mine = a.mine;
-    own = a.own;
-    same = a.same;
-    sees = a.sees;
-  }
-    where
-      last_of : (es old new before : List (Event C A)) → new ≡ before ++ es → (es ≡ [] → new ≡ old) → ((es ≡ []) × (new ≡ old)) ⊎ ((front before' : List (Event C A)) × (e : Event C A) × (es ≡ front ++ e ∷ []) × (new ≡ before' ++ e ∷ []))
-      last_of [] old new before at none = inl (refl, none refl)
-      last_of (x ∷ xs) old new before at none = let c = last_one x xs in inr (c.0, before ++ c.0, c.1, c.2, at ∙ (ap (λ (z : List (Event C A)). before ++ z) c.2 ∙ sym (append_assoc before c.0 (c.1 ∷ []))))
-        where
-          last_one : (x : Event C A) (xs : List (Event C A)) → (front : List (Event C A)) × (e : Event C A) × (x ∷ xs ≡ front ++ e ∷ [])
-          last_one x [] = ([], x, refl)
-          last_one x (y ∷ ys) = let r = last_one y ys in (x ∷ r.0, r.1, ap (λ (z : List (Event C A)). x ∷ z) r.2)
+  -- no call
+  pub ran_none : (v : View C A X K) → Ran ranks start next permits k v v []
+  ran_none v = record { made = inl (refl, refl); mine = sym (append-nil v.mine); same = goes_on_refl v; sees = sees_refl ranks permits k v }
 
+  -- a call, or several side by side
+  pub stands_ran : (v w : View C A X K) (es : List (Event C A)) → Stands ranks start next permits k v w es → Ran ranks start next permits k v w es
+  stands_ran v w es a = record { made = made es a; mine = a.mine; same = a.same; sees = a.sees }
+    where
+      last_one : (x : Event C A) (xs : List (Event C A)) → (front : List (Event C A)) × (e : Event C A) × (x ∷ xs ≡ front ++ e ∷ [])
+      last_one x [] = ([], x, refl)
+      last_one x (y ∷ ys) = let r = last_one y ys in (x ∷ r.0, r.1, ap (λ (z : List (Event C A)). x ∷ z) r.2)
+
+      made : (es : List (Event C A)) → Stands ranks start next permits k v w es → ((es ≡ []) × (w.seen ≡ v.seen)) ⊎ EndsWith start next k w es
+      made [] a = inl (refl, a.none refl)
+      made (x ∷ xs) a = let c = last_one x xs in inr (record {
+        legal = a.legal;
+        own = a.own;
+        front = c.0;
+        before = a.before ++ c.0;
+        last = c.1;
+        all = c.2;
+        seen = a.last ∙ (ap (λ (z : List (Event C A)). a.before ++ z) c.2 ∙ sym (append_assoc a.before c.0 (c.1 ∷ [])));
+      })
+
+  -- calls behind calls
   pub ran_trans : (u v w : View C A X K) (es fs : List (Event C A)) → Ran ranks start next permits k u v es → Ran ranks start next permits k v w fs → Ran ranks start next permits k u w (es ++ fs)
   ran_trans u v w es fs a b = record {
-    legal = b.legal;
-    last = ⊎_elim
-        (λ (none : (fs ≡ []) × (w.seen ≡ v.seen)). let same : es ++ fs ≡ es = ap (λ (z : List (Event C A)). es ++ z) none.0 ∙ append-nil es in ⊎_elim
-        (λ (t : (es ≡ []) × (v.seen ≡ u.seen)). inl (same ∙ t.0, none.1 ∙ t.1))
-        (λ (t : (front before : List (Event C A)) × (e : Event C A) × (es ≡ front ++ e ∷ []) × (v.seen ≡ before ++ e ∷ [])). inr (t.0, t.1, t.2, same ∙ t.3, none.1 ∙ t.4)) a.last)
-        (λ (t : (front before : List (Event C A)) × (e : Event C A) × (fs ≡ front ++ e ∷ []) × (w.seen ≡ before ++ e ∷ [])). inr (es ++ t.0, t.1, t.2, ap (λ (z : List (Event C A)). es ++ z) t.3 ∙ sym (append_assoc es t.0 (t.2 ∷ [])), t.4))
-        b.last;
+    made = ⊎_elim
+        (λ (none : (fs ≡ []) × (w.seen ≡ v.seen)).
+        let all : es ++ fs ≡ es = ap (λ (z : List (Event C A)). es ++ z) none.0 ∙ append-nil es in
+        let mine : w.mine ≡ v.mine = b.mine ∙ (ap (λ (z : List (Event C A)). v.mine ++ z) none.0 ∙ append-nil v.mine) in
+        ⊎_elim
+        (λ (nothing : (es ≡ []) × (v.seen ≡ u.seen)). inl (all ∙ nothing.0, none.1 ∙ nothing.1))
+        (λ (m : EndsWith start next k v es). inr (record {
+          legal = subst (IsLegal (next k) (start k)) (sym none.1) m.legal;
+          own = (λ i. of (b.same.same_rank i) (none.1 i)) ∙ (m.own ∙ sym mine);
+          front = m.front;
+          before = m.before;
+          last = m.last;
+          all = all ∙ m.all;
+          seen = none.1 ∙ m.seen;
+        }))
+        a.made)
+        (λ (m : EndsWith start next k w fs). inr (record {
+          legal = m.legal;
+          own = m.own;
+          front = es ++ m.front;
+          before = m.before;
+          last = m.last;
+          all = ap (λ (z : List (Event C A)). es ++ z) m.all ∙ sym (append_assoc es m.front (m.last ∷ []));
+          seen = m.seen;
+        }))
+        b.made;
     mine = b.mine ∙ (ap (λ (z : List (Event C A)). z ++ fs) a.mine ∙ append_assoc u.mine es fs);
-    own = b.own;
     same = goes_on_trans u v w a.same b.same;
     sees = sees_trans ranks permits k u v w a.same.same_promise a.sees b.sees;
   }

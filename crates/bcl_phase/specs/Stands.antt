@@ -39,6 +39,17 @@ module _ {C A X K : Type 0} (ranks : K → ℕ) (permits : K → ℕ → ℕ →
     pub sees : Sees k old new
     pub mine : IsPrefix old.mine new.mine
 
+module _ {C A X K T : Type 0} (start : K → T) (next : K → T → C → A × T) where
+  -- the last of these events is the last that the pass has seen, which is legal
+  pub record EndsWith (k : K) (new : View C A X K) (es : List (Event C A)) : Type 0 where
+    pub legal : IsLegal (next k) (start k) new.seen
+    pub own : of new.rank new.seen ≡ new.mine
+    pub front : List (Event C A)
+    pub before : List (Event C A)
+    pub last : Event C A
+    pub all : es ≡ front ++ last ∷ []
+    pub seen : new.seen ≡ before ++ last ∷ []
+
 module _ {C A X K T : Type 0} (ranks : K → ℕ) (start : K → T) (next : K → T → C → A × T) (permits : K → ℕ → ℕ → C → Type 0) where
   -- calls with these events, side by side and the last that the pass has seen; with no event it has seen nothing more
   pub record Stands (k : K) (old new : View C A X K) (es : List (Event C A)) : Type 0 where
@@ -52,11 +63,9 @@ module _ {C A X K T : Type 0} (ranks : K → ℕ) (start : K → T) (next : K �
     pub same : GoesOn old new
     pub sees : Sees ranks permits k old new
 
-  -- the same, where events of other ranks may stand between these, and only the last of these is the last that the pass has seen
+  -- any number of calls, with these events, between which events of other ranks may stand; without a call it has seen nothing more
   pub record Ran (k : K) (old new : View C A X K) (es : List (Event C A)) : Type 0 where
-    pub legal : IsLegal (next k) (start k) new.seen
-    pub last : ((es ≡ []) × (new.seen ≡ old.seen)) ⊎ ((front before : List (Event C A)) × (e : Event C A) × (es ≡ front ++ e ∷ []) × (new.seen ≡ before ++ e ∷ []))
+    pub made : ((es ≡ []) × (new.seen ≡ old.seen)) ⊎ EndsWith start next k new es
     pub mine : new.mine ≡ old.mine ++ es
-    pub own : of new.rank new.seen ≡ new.mine
     pub same : GoesOn old new
     pub sees : Sees ranks permits k old new
