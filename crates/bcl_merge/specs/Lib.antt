@@ -1,2 +1,4 @@
 pub mod Sum
 pub mod SumLaws
+pub mod LeastWords
+pub mod LeastWordsLaws

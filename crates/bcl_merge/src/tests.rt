@@ -1,7 +1,22 @@
-//! The sum, and entries of a table that become one by it.
+//! Each law by its function, by mergers of it, and in any order.
 
-use crate::{StoredEntry, Sum, updated_entry, wrapping_sum};
-use bcl_words::{Pair, any_order, merged_entry};
+ghost use Rattle.std.specs.Prelude.{◌≡◌, if◌then◌else◌};
+ghost use Rattle.bcl_words.specs.Numbers.{two_words};
+ghost use Rattle.bcl_merge.specs.LeastWords.{comes_after};
+
+use crate::{LeastWords, Merger, Sum, least_words, wrapping_sum};
+use bcl_words::{MergeLaw, Object, Pair, any_order};
+use std::marker::{Send, Sync};
+
+fn is_send<T: Send>() {}
+
+fn is_sync<T: Sync>() {}
+
+// Of any law and any function that ranks can share.
+fn ranks_share<V: Object, L: MergeLaw<V>, F: Fn(V, V) -> V + Send + Sync>() {
+    is_send::<Merger<V, L, F>>();
+    is_sync::<Merger<V, L, F>>();
+}
 
 #[test]
 fn sums_wrap(rt: HostRuntime) {
@@ -11,51 +26,41 @@ fn sums_wrap(rt: HostRuntime) {
 }
 
 #[test]
-fn entries_of_one_key_become_one(rt: HostRuntime) {
-    let one = Pair { a: 7u8, b: 2u64 };
-    let other = Pair { a: 7, b: 3 };
-    let merged = merged_entry::<u8, u64, Sum, _>(&one, &other, wrapping_sum);
-    assert_eq!(rt; merged, Some(Pair { a: 7, b: 5 }));
-    let elsewhere = Pair { a: 8, b: 3 };
-    let merged = merged_entry::<u8, u64, Sum, _>(&one, &elsewhere, wrapping_sum);
-    assert_eq!(rt; merged, None);
+fn the_first_word_that_differs_decides(rt: HostRuntime) {
+    assert_eq!(rt; least_words(7u64, 5), 5);
+    assert_eq!(rt; least_words(5u64, 7), 5);
+    assert_eq!(rt; least_words(5u64, 5), 5);
+    // the low word stands first, and the greater number has the lesser one
+    let greater = (1u128 << 64) + 2;
+    assert_eq!(rt; least_words(greater, 3), greater);
+    assert_eq!(rt; least_words(3, greater), greater);
+    assert_eq!(rt; least_words(greater, 2), 2);
+    let pair = Pair { a: 1u64, b: 9u64 };
+    assert_eq!(rt; least_words(pair, Pair { a: 2, b: 0 }), pair);
+    assert_eq!(rt; least_words(Pair { a: 1, b: 10 }, pair), pair);
+    any_order::<u64, LeastWords>();
+    any_order::<Pair<u64, u64>, LeastWords>();
 }
 
-/// Eight words, of which the first two may be other than 0.
-fn two(first: u64, second: u64) -> [u64; 8] {
-    [first, second, 0, 0, 0, 0, 0, 0]
+fn least_of_numbers(a: u128, b: u128) -> u128
+    ensures { result ≡ (if comes_after (two_words a) (two_words b) then b else a) }
+{
+    least_words(a, b)
 }
 
 #[test]
-fn two_entries_are_merged_into_a_stored_one(rt: HostRuntime) {
-    let key = (1u128 << 64) + 2;
-    let stored = StoredEntry {
-        key: two(2, 1),
-        value: two(5, 0),
-    };
-    let one = Pair { a: key, b: 3u64 };
-    let other = Pair {
-        a: key,
-        b: u64::MAX,
-    };
-    let updated = updated_entry::<u128, u64, Sum, _>(&stored, &one, &other, wrapping_sum);
-    let sum = StoredEntry {
-        key: two(2, 1),
-        value: two(7, 0),
-    };
-    assert_eq!(rt; updated, Some(sum));
-
-    // the same low word, another high one
-    let elsewhere = Pair { a: 2, b: 3 };
-    let updated = updated_entry::<u128, u64, Sum, _>(&stored, &one, &elsewhere, wrapping_sum);
-    assert_eq!(rt; updated, None);
-    let updated = updated_entry::<u128, u64, Sum, _>(&stored, &elsewhere, &elsewhere, wrapping_sum);
-    assert_eq!(rt; updated, None);
-
-    let no_value = StoredEntry {
-        key: two(2, 1),
-        value: two(5, 1),
-    };
-    let updated = updated_entry::<u128, u64, Sum, _>(&no_value, &one, &other, wrapping_sum);
-    assert_eq!(rt; updated, None);
+fn mergers_merge_by_their_function(rt: HostRuntime) {
+    let sums = Merger::<u64, Sum, _>::new(wrapping_sum);
+    assert_eq!(rt; sums.apply(u64::MAX, 3), 2);
+    let sums = Merger::<u64, Sum, _>::new(|a: u64, b: u64| b.wrapping_add(a));
+    assert_eq!(rt; sums.apply(2, 3), 5);
+    let least = Merger::<u128, LeastWords, _>::new(least_of_numbers);
+    assert_eq!(rt; least.apply(3, 1 << 64), 1 << 64);
+    let least = Merger::<Pair<u64, u64>, LeastWords, _>::new(|a: Pair<u64, u64>, b: Pair<
+        u64,
+        u64,
+    >| least_words(a, b));
+    let pair = Pair { a: 1, b: 5 };
+    assert_eq!(rt; least.apply(pair, Pair { a: 1, b: 9 }), pair);
+    assert_eq!(rt; least.apply(Pair { a: 2, b: 0 }, pair), pair);
 }

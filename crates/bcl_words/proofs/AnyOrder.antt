@@ -1,8 +1,8 @@
 -- A fold by an operation that is closed, commutative and associative is the same in any order.
-use Rattle.std.proofs.Common.{◌≡◌, ℕ, ◌+◌, ◌<◌, List, [], ◌∷◌, Bool, true, cond, refl, sym, ap, subst, add_comm, add_assoc, ◌∙◌, arith, ⊎_elim}
+use Rattle.std.proofs.Common.{◌≡◌, ℕ, ◌+◌, ◌<◌, List, [], ◌∷◌, Bool, true, false, cond, refl, sym, ap, subst, add_comm, add_assoc, ◌∙◌, arith, ⊎_elim}
 use Rattle.std.specs.Bool.{Decides}
 use Rattle.std.specs.List.{fold, count_by, All, AllByRecursion}
-use Rattle.std.proofs.lemmas.Bool.{cases_Bool, cond-true, cond-false}
+use Rattle.std.proofs.lemmas.Bool.{cases_Bool, cond-true, cond-false, false≢true}
 use Rattle.std.specs.Str.{bytes_eq}
 use Rattle.std.proofs.lemmas.Slice.Eq.{bytes_eq-Decides}
 use Rattle.std.proofs.lemmas.List.Elements.{recursion_from_All}
@@ -80,16 +80,43 @@ module _ {X : Type 0} (test : X → X → Bool) (decides : (x y : X) → Decides
         (λ z. let h = same z in let k = without_times x z ys some in omega arith)
         ∙ sym (fold_out a x ys p all.0 all' some)
 
-    pub same_in_any_order : (a : X) (xs ys : List X) → P a → AllByRecursion P xs → AllByRecursion P ys → ((z : X) → count_by (test z) xs ≡ count_by (test z) ys) → fold op a xs ≡ fold op a ys
-    same_in_any_order a xs ys p all all' same = fold_same a xs ys p all all' (λ z. times_counts z xs ∙ same z ∙ sym (times_counts z ys))
+    -- whichever item comes first
+    firsts_same : (x y : X) (xs ys : List X) → P x → P y → AllByRecursion P xs → AllByRecursion P ys → ((z : X) → times z (x ∷ xs) ≡ times z (y ∷ ys)) → fold op x xs ≡ fold op y ys
+    firsts_same x y xs ys p q all all' same =
+        ⊎_elim
+        (λ t.
+        let e : x ≡ y = sym ((decides y x).0 t) in
+        ap (λ a. fold op a xs) e
+        ∙ fold_same y xs ys q all all'
+        (λ (z : X).
+        let n : ℕ = cond (test z x) 1 0 in
+        let m : ℕ = cond (test z y) 1 0 in
+        let k : n ≡ m = ap (λ (v : X). cond {A = ℕ} (test z v) 1 0) e in
+        let h : n + times z xs ≡ m + times z ys = same z in
+        omega arith))
+        (λ f.
+        let g : test x y ≡ false = ⊎_elim (λ t. absurd (false≢true (sym f ∙ (decides y x).1 (sym ((decides x y).0 t))))) (λ u. u) (cases_Bool (test x y)) in
+        let a : 0 + times y xs ≡ 1 + times y ys = subst (λ b. 0 + times y xs ≡ cond b 1 0 + times y ys) (here y) (subst (λ b. cond b 1 0 + times y xs ≡ cond (test y y) 1 0 + times y ys) f (same y)) in
+        let b : 1 + times x xs ≡ 0 + times x ys = subst (λ c. 1 + times x xs ≡ cond c 1 0 + times x ys) g (subst (λ c. cond c 1 0 + times x xs ≡ cond (test x y) 1 0 + times x ys) (here x) (same x)) in
+        let some : 0 < times y xs = omega arith in
+        let some' : 0 < times x ys = omega arith in
+        fold_out x y xs p q all some
+        ∙ ap (λ v. fold op v (without y xs)) (comm x y p q)
+        ∙ fold_same (op y x) (without y xs) (without x ys) (closed y x q p) (without_all P y xs all) (without_all P x ys all')
+        (λ z. let h = same z in let k = without_times y z xs some in let l = without_times x z ys some' in omega arith)
+        ∙ sym (fold_out y x ys q p all' some'))
+        (cases_Bool (test y x))
+
+    pub same_in_any_order : (x y : X) (xs ys : List X) → P x → P y → AllByRecursion P xs → AllByRecursion P ys → ((z : X) → count_by (test z) (x ∷ xs) ≡ count_by (test z) (y ∷ ys)) → fold op x xs ≡ fold op y ys
+    same_in_any_order x y xs ys p q all all' same = firsts_same x y xs ys p q all all' (λ z. times_counts z (x ∷ xs) ∙ same z ∙ sym (times_counts z (y ∷ ys)))
 
 -- the same at lists of words
 pub fold_any_order : (passes : List ℕ → Bool) (op : List ℕ → List ℕ → List ℕ)
     → ((a b : List ℕ) → passes a ≡ true → passes b ≡ true → passes (op a b) ≡ true)
     → ((a b : List ℕ) → passes a ≡ true → passes b ≡ true → op a b ≡ op b a)
     → ((a b c : List ℕ) → passes a ≡ true → passes b ≡ true → passes c ≡ true → op (op a b) c ≡ op a (op b c))
-    → (first : List ℕ) (xs ys : List (List ℕ)) → passes first ≡ true → All (λ w. passes w ≡ true) xs → All (λ w. passes w ≡ true) ys
-    → HoldTheSame xs ys → fold op first xs ≡ fold op first ys
-fold_any_order passes op closed comm assoc first xs ys p all all' same =
-    same_in_any_order bytes_eq bytes_eq-Decides op (λ w. passes w ≡ true) closed comm assoc first xs ys p
+    → (x y : List ℕ) (xs ys : List (List ℕ)) → passes x ≡ true → passes y ≡ true → All (λ w. passes w ≡ true) xs → All (λ w. passes w ≡ true) ys
+    → HoldTheSame (x ∷ xs) (y ∷ ys) → fold op x xs ≡ fold op y ys
+fold_any_order passes op closed comm assoc x y xs ys p q all all' same =
+    same_in_any_order bytes_eq bytes_eq-Decides op (λ w. passes w ≡ true) closed comm assoc x y xs ys p q
     (recursion_from_All (λ w. passes w ≡ true) xs all) (recursion_from_All (λ w. passes w ≡ true) ys all') same

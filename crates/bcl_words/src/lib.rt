@@ -24,7 +24,7 @@ mod tests;
 
 pub use bytes::{Bytes16, Bytes64};
 pub use hashing::{hash, key_hash};
-pub use laws::{any_order, have_same_words, merged_entry, read_back};
+pub use laws::{any_order, have_same_words, read_back};
 pub use memory::NoMemory;
 pub use merge_law::MergeLaw;
 pub use numbers::zeros_from;
