@@ -6,6 +6,7 @@ pub mod Array
 pub mod Filter
 pub mod Promises
 pub mod Stored
+pub mod Merged
 pub mod SeqMap
 pub mod SeqQueue
 pub mod InOrder

@@ -1,7 +1,13 @@
 //! What follows from the definitions of the sequential objects.
 
-ghost use Rattle.std.specs.Prelude.{◌≡◌, ℕ, ◌<◌, ◌^◌, List, ◌∷◌, IsSome, Option, Some, None, true};
-ghost use Rattle.bcl_event.specs.Map.{Pairs, value_at, with_pair, with_value};
+ghost use Rattle.std.specs.Prelude.{◌≡◌, ℕ, ◌+◌, ◌<◌, ◌≤◌, ◌^◌, List, [], ◌∷◌, length, map, All, count_by, IsSome, Option, Some, None, Bool, true};
+ghost use Rattle.std.specs.List.{sum_by, flat_map, range_with_len};
+ghost use Rattle.std.specs.List.Sorted.{IsPermutation};
+ghost use Rattle.bcl_words.specs.Merges.{IsSameInAnyOrder};
+ghost use Rattle.bcl_event.specs.declared.map.MapCall.{MapCall};
+ghost use Rattle.bcl_event.specs.History.{of, state_after, IsLegal};
+ghost use Rattle.bcl_event.specs.Map.{Pairs, value_at, with_pair, with_value, map_step};
+ghost use Rattle.bcl_event.specs.Merged.{MapHistory, most_keys, NoneFull, MergesAlone, MergeTheSame, merged_for, folded};
 ghost use Rattle.bcl_event.specs.SeqMap.{MakesValues};
 ghost use Rattle.bcl_event.specs.Array.{MakesItems};
 ghost use Rattle.bcl_event.specs.declared.map.MapCall.TheVariants.{Add};
@@ -18,6 +24,28 @@ use bcl_words::Object;
 pub fn stored_values_are_found()
     ensures new { (pairs : Pairs) (key value : List ℕ) → value_at key pairs ≡ None → Stores key value pairs (with_pair key value pairs) 1 }
     ensures replaced { (pairs : Pairs) (key value : List ℕ) → IsSome (value_at key pairs) → Stores key value pairs (with_value key value pairs) 0 }
+{}
+
+/// A map that has room for all keys that the calls of a history may add answers none of them `Full`. It does nothing, and
+/// its contract is what is proved.
+pub fn maps_with_room_are_never_full()
+    ensures { (capacity : ℕ) (op : List ℕ → List ℕ → List ℕ) (pairs : Pairs) (history : MapHistory) → IsLegal (map_step capacity op) pairs history → length pairs + most_keys history ≤ capacity → NoneFull history }
+{}
+
+/// Merges leave for each key the fold of the values that were merged for it into what it had. Where the order of values
+/// doesn't matter, two histories that merge the same values for a key into empty maps leave it the same value. It does
+/// nothing, and its contract is what is proved.
+pub fn merges_leave_folds()
+    ensures folds { (capacity : ℕ) (op : List ℕ → List ℕ → List ℕ) (pairs : Pairs) (history : MapHistory) (key : List ℕ) → MergesAlone capacity op pairs history → value_at key (state_after (map_step capacity op) pairs history) ≡ folded op (value_at key pairs) (merged_for key history) }
+    ensures any_order { (passes : List ℕ → Bool) (op : List ℕ → List ℕ → List ℕ) (capacity other : ℕ) (one two : MapHistory) (key : List ℕ) → IsSameInAnyOrder passes op → MergesAlone capacity op [] one → MergesAlone other op [] two → MergeTheSame passes key one two → value_at key (state_after (map_step capacity op) [] one) ≡ value_at key (state_after (map_step other op) [] two) }
+{}
+
+/// The events of a map's history are those of its ranks, one rank after another, in some order, and so are its calls: as
+/// many of them pass a test as of the ranks' calls together. It does nothing, and its contract is what is proved.
+pub fn calls_are_those_of_the_ranks()
+    ensures events { (ranks : ℕ) (history : MapHistory) → All (λ e. e.rank < ranks) history → IsPermutation history (flat_map (λ r. of r history) (range_with_len 0 ranks)) }
+    ensures calls { (ranks : ℕ) (history : MapHistory) → All (λ e. e.rank < ranks) history → IsPermutation (map (λ e. e.call) history) (flat_map (λ r. map (λ e. e.call) (of r history)) (range_with_len 0 ranks)) }
+    ensures count { (ranks : ℕ) (test : MapCall (List ℕ) (List ℕ) → Bool) (history : MapHistory) → All (λ e. e.rank < ranks) history → count_by (λ e. test e.call) history ≡ sum_by (λ r. count_by (λ e. test e.call) (of r history)) (range_with_len 0 ranks) }
 {}
 
 /// The items that are taken from a queue, and then those that are left, are those that were put, in order. It does

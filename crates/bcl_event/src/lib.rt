@@ -32,8 +32,9 @@ pub use array::{ArrayCall, ArrayReply};
 pub use event::Event;
 pub use filter::{FilterCall, FilterReply};
 pub use laws::{
-    inserted_keys_are_present, items_are_taken_in_order, numbers_make_numbers,
-    numbers_name_promises, stored_values_are_found,
+    calls_are_those_of_the_ranks, inserted_keys_are_present, items_are_taken_in_order,
+    maps_with_room_are_never_full, merges_leave_folds, numbers_make_numbers, numbers_name_promises,
+    stored_values_are_found,
 };
 pub use map::{MapCall, MapReply};
 pub use marks::{are_set, bits_of, with_bits};

@@ -6,7 +6,8 @@ ghost use Rattle.std.specs.Prelude.{refl};
 use crate::marks::bits_of;
 use crate::{
     ArrayCall, ArrayReply, FilterCall, FilterReply, MapCall, MapReply, QueueCall, QueueReply,
-    SeqArray, SeqFilter, SeqMap, SeqQueue, inserted_keys_are_present, items_are_taken_in_order,
+    SeqArray, SeqFilter, SeqMap, SeqQueue, calls_are_those_of_the_ranks, inserted_keys_are_present,
+    items_are_taken_in_order, maps_with_room_are_never_full, merges_leave_folds,
     numbers_make_numbers, numbers_name_promises, stored_values_are_found,
 };
 use bcl_words::{MergeLaw, hash};
@@ -57,6 +58,9 @@ fn a_map_merges_and_adds(rt: HostRuntime) -> Result<(), Fail> {
     let reply = map.step::<Nought, _>(&MapCall::Find(3), &merge)?;
     assert_eq!(rt; reply, MapReply::Value(0));
     stored_values_are_found();
+    maps_with_room_are_never_full();
+    merges_leave_folds();
+    calls_are_those_of_the_ranks();
     numbers_make_numbers();
     numbers_name_promises();
     let reply = map.step::<Nought, _>(&MapCall::Add(6, 1), &merge)?;
