@@ -19,3 +19,4 @@ pub mod Looks
 pub mod Walks
 pub mod Seated
 pub mod Quiet
+pub mod Readings

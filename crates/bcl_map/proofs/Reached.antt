@@ -1,5 +1,6 @@
--- How the steps of an insertion go on from one another, and what it costs.
-use Rattle.std.proofs.Common.{◌≡◌, ◌≢◌, ℕ, zero, suc, ◌+◌, ◌<◌, ◌≤◌, ◌⊎◌, inl, inr, ⊎_elim, List, [], ◌∷◌, ◌++◌, length, drop, slice_index, cond, Bool, true, false, true≢false, refl, sym, ap, ◌∙◌, subst, arith, le_trans, le_refl, eq-eqb}
+-- How the steps of an insertion or a merge go on from one another, and what it costs.
+use Rattle.std.proofs.Common.{◌≡◌, ◌≢◌, ℕ, zero, suc, ◌+◌, ◌<◌, ◌≤◌, ◌⊎◌, inl, inr, ⊎_elim, List, [], ◌∷◌, ◌++◌, length, drop, slice_index, cond, Bool, true, false, true≢false, refl, sym, ap, ap₂, ◌∙◌, subst, arith, le_trans, le_refl, eq-eqb}
+use Rattle.std.specs.Prelude.{max}
 use Rattle.std.proofs.Math.Nat.{le-max_left, le-max_right, max-le}
 use Rattle.std.proofs.Math.Seq.{drop-append_seam}
 use Rattle.std.proofs.lemmas.List.{append_cancel_right}
@@ -106,6 +107,18 @@ module _ (op : Words → Words → Words) (L : Shape) where
     many = subst (λ (n : ℕ). level op L u + n ≤ keys op L ends.before + u.atomics + is_new a) (sym same) ends.many;
     own = ⊎_elim (λ (e : v.atomics ≡ u.atomics). inl (same ∙ e)) (λ (own : KnowsOwn u). inr own) ends.own;
   }
+
+  -- gets that are no call, by which nothing more is known
+  pub comes_still : (u v w : MapView) → Comes op L u v → Still v w → w.atomics ≡ v.atomics → w.note.claims ≡ v.note.claims → Comes op L u w
+  comes_still u v w comes still atomics claims = record {
+    still = still_trans u v w comes.still still;
+    own = ap₂ of still.same.same_rank still.seen ∙ (comes.own ∙ sym still.mine);
+    many = subst (λ (z : ℕ × ℕ). level op L u + z.0 ≤ z.1 + u.atomics) (λ i. (sym atomics i, sym level_same i)) comes.many;
+    fresh = λ none. let f = comes.fresh (ap strays (sym claims) ∙ none) in (f.0, atomics ∙ f.1);
+  }
+    where
+      level_same : level op L w ≡ level op L v
+      level_same = ap₂ (λ (seen : Events) (as' : List Claim). max (keys op L seen) (least as')) still.seen claims
 
   pub past_behind : (c : MapCall Words Words) (k : Words) (d : ℕ) (u v w : MapView) → Comes op L u v → IsPast op L c k d v w → IsPast op L c k d u w
   past_behind c k d u v w comes past = record {

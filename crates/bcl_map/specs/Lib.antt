@@ -5,6 +5,8 @@ pub mod Fits
 pub mod Steps
 pub mod Finds
 pub mod Inserts
+pub mod Storing
+pub mod OldValue
 pub mod Ranks
 pub mod Parts
 pub mod Calls

@@ -1,17 +1,20 @@
--- How an insertion goes on from one step to another, and how it ends; said of a pass's view before and after.
+-- How an insertion or a merge goes on from one step to another, and how it ends; said of a pass's view before and after.
 use Rattle.std.specs.Prelude.{◌≡◌, ◌≢◌, ℕ, suc, ◌+◌, ◌<◌, ◌≤◌, ◌⊎◌, [], ◌∷◌, ◌++◌, max, false, Option, Some, None}
 use Rattle.bcl_event.specs.History.{event, of}
 use Rattle.bcl_event.specs.declared.map.MapCall.{MapCall}
-use Rattle.bcl_event.specs.declared.map.MapCall.TheVariants.{Insert}
 use Rattle.bcl_event.specs.declared.map.MapReply.{MapReply}
 use Rattle.bcl_event.specs.declared.map.MapReply.TheVariants.{New, Replaced, Full}
 use Rattle.bcl_phase.specs.Stands.{Still}
+use Rattle.bcl_segment.specs.declared.layout.Layout.{Layout}
 use Rattle.bcl_map.specs.declared.shape.Shape.{Shape}
 use Rattle.bcl_map.specs.declared.inserted.Inserted.{Inserted}
 use Rattle.bcl_map.specs.declared.inserted.Inserted.TheVariants.{New as was_new, Replaced as was_replaced, Full as was_full}
-use Rattle.bcl_map.specs.Map.{places, Words, home, tag}
-use Rattle.bcl_map.specs.Calls.{MapView, Stands}
+use Rattle.bcl_map.specs.declared.reach.Reach.{Reach}
+use Rattle.bcl_map.specs.declared.reach.Reach.TheVariants.{New as reach_new, Here as reach_here, Full as reach_full}
+use Rattle.bcl_map.specs.Map.{places, path, Words, home, tag}
+use Rattle.bcl_map.specs.Calls.{MapView, Stands, IsBucketAt}
 use Rattle.bcl_map.specs.Costs.{Events, keys, is_new}
+use Rattle.bcl_map.specs.Finds.{reading, value_of}
 use Rattle.bcl_map.specs.Inserts.{heading, matching, facing, strays, least}
 
 -- what a pass has seen of its own rank is all that this rank did
@@ -64,14 +67,34 @@ module _ (op : Words → Words → Words) (shape : Shape) where
     pub same_home : tag control ≡ home shape key → Comes old new × IsMatching key number 0 new
     pub other_home : tag control ≢ home shape key → IsPast call key number old new
 
-  -- what became of the insertion at the place with this number
-  abbrev pub Inserts : Words → Words → ℕ → MapView → MapView → Option Inserted → Type 0
-  Inserts key value number old new None = (suc number < places shape) × Comes old new × IsHeading key (suc number) new
-  Inserts key value number old new (Some was_new) = Ends (Insert key value) New old new × (new.note.claims ≡ [])
-  Inserts key value number old new (Some was_replaced) = Ends (Insert key value) Replaced old new × (new.note.claims ≡ []) × (strays old.note.claims ≡ false) × (new.atomics ≡ old.atomics)
-  Inserts key value number old new (Some was_full) = Ends (Insert key value) Full old new × (new.note.claims ≡ [])
+  -- where the walk of a call ended
+  abbrev pub Reached : ℕ → Layout → MapCall Words Words → Words → MapView → MapView → Reach → Type 0
+  Reached words layout call key old new reach_new = Ends call New old new × (new.note.claims ≡ [])
+  Reached words layout call key old new (reach_here bucket) = Comes old new × (new.note.claims ≡ reading key bucket.number (value_of new.note.claims)) × IsBucketAt words layout bucket.at (path shape key bucket.number)
+  Reached words layout call key old new reach_full = Ends call Full old new × (new.note.claims ≡ [])
 
--- the reply of an insertion
+  -- what became of it at the place with this number: it goes on, or ends
+  abbrev pub ReachedAt : ℕ → Layout → MapCall Words Words → Words → ℕ → MapView → MapView → Option Reach → Type 0
+  ReachedAt words layout call key number old new None = (suc number < places shape) × Comes old new × IsHeading key (suc number) new
+  ReachedAt words layout call key number old new (Some reach) = Reached words layout call key old new reach
+
+-- how many words a walk puts
+abbrev pub words_reached_by : ℕ → ℕ → Reach → ℕ
+words_reached_by kw vw reach_new = kw + vw
+words_reached_by kw vw (reach_here bucket) = 0
+words_reached_by kw vw reach_full = 0
+
+abbrev pub words_reached : ℕ → ℕ → Option Reach → ℕ
+words_reached kw vw None = 0
+words_reached kw vw (Some reach) = words_reached_by kw vw reach
+
+-- how many exchanges a walk makes at most
+abbrev pub most_reached : ℕ → Reach → ℕ
+most_reached taken reach_new = taken + 1
+most_reached taken (reach_here bucket) = 0
+most_reached taken reach_full = taken
+
+-- the reply of an insertion and of a merge
 abbrev pub inserted : Inserted → MapReply Words
 inserted was_new = New
 inserted was_replaced = Replaced
@@ -82,10 +105,6 @@ abbrev pub words_put_by : ℕ → ℕ → Inserted → ℕ
 words_put_by kw vw was_new = kw + vw
 words_put_by kw vw was_replaced = vw
 words_put_by kw vw was_full = 0
-
-abbrev pub words_put : ℕ → ℕ → Option Inserted → ℕ
-words_put kw vw None = 0
-words_put kw vw (Some inserted) = words_put_by kw vw inserted
 
 -- how many exchanges it makes at most, where other ranks inserted so many keys since its pass had last seen the history
 abbrev pub most_atomics : ℕ → Inserted → ℕ

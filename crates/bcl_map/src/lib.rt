@@ -16,7 +16,8 @@
 //!   a contract sees of them.
 //! - `control`, `walk`: control words, and the way from bucket to bucket.
 //! - `find`: a find, and `look`, its look at one bucket.
-//! - `own`: the calls under `Own`, and `insert`, the insertion at one bucket, with what it is answered in `inserted`.
+//! - `own`: the calls under `Own`, and `merge`, a merge; both it and an insertion store a value (`storing`) by one walk
+//!   (`reach`) and the same puts (`put`), and are answered what `inserted` has.
 //! - `close`: a map that is closed. `count` and `pairs` list what it has, by `specs/Closed.antt`.
 //!
 //! `tutorial` is a whole program on it, which docs/TUTORIAL.md goes through.
@@ -27,16 +28,19 @@ mod control;
 mod count;
 mod find;
 mod home;
-mod insert;
 mod inserted;
 mod lead;
 mod look;
 mod map;
+mod merge;
 mod note;
 mod own;
 mod pairs;
 mod pass;
+mod put;
+mod reach;
 mod shape;
+mod storing;
 #[cfg(test)]
 mod tests;
 #[cfg(test)]

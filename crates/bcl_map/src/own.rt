@@ -2,8 +2,9 @@
 
 ghost use Rattle.std.specs.Prelude.{◌≡◌, ◌+◌, ◌*◌, ◌≤◌, ◌<◌, [], ◌∷◌};
 ghost use Rattle.bcl_words.specs.Words.{Fits};
+ghost use Rattle.bcl_words.specs.Merges.{AnswersLaw};
 ghost use Rattle.bcl_event.specs.History.{event};
-ghost use Rattle.bcl_event.specs.declared.map.MapCall.TheVariants.{Find, Insert};
+ghost use Rattle.bcl_event.specs.declared.map.MapCall.TheVariants.{Find, Insert, Merge};
 ghost use Rattle.bcl_phase.specs.Parts as phase;
 ghost use Rattle.bcl_map.specs.Map.{places, home, IsShaped};
 ghost use Rattle.bcl_map.specs.Calls.{Stands, IsMine, reply};
@@ -12,14 +13,18 @@ ghost use Rattle.bcl_map.specs.Reaches.{inserted, words_put_by, most_atomics};
 ghost use Rattle.bcl_map.specs.Parts.{lead_key, pass_view, IsOf};
 
 use crate::find::find_key;
-use crate::insert::insert_at;
 use crate::inserted::Inserted;
 use crate::lead::MapLead;
 use crate::map::Map;
+use crate::merge::merge_key;
 use crate::pass::MapPass;
-use crate::walk::{next_bucket, walk_of};
+use crate::put::replace;
+use crate::reach::{Bucket, Reach, reach_key};
+use crate::storing::Inserting;
+use bcl_merge::Merger;
 use bcl_phase::{Lead, Own, Pass};
 use bcl_words::{MergeLaw, Object};
+use std::marker::Sync;
 
 /// Stores a value for a key, whose home is the pass's rank.
 #[inline]
@@ -43,26 +48,23 @@ fn insert_key<K: Object, V: Object, L: MergeLaw<V>>(
     ensures atomics { (phase.pass_view pass.new).atomics ≤ (phase.pass_view pass.old).atomics + most_atomics (taken (phase.pass_view pass.old) (phase.pass_view pass.new)) result }
 {
     let words = key.to_words();
-    let walk = walk_of(pass, lead, &words);
-    let mut at = walk.at;
     let value_words = value.to_words();
-    for number in 0..walk.places {
-        let last = number + 1 == walk.places;
-        match insert_at(
-            pass,
-            lead,
-            at,
-            &words,
-            &value_words,
-            number,
-            walk.home,
-            last,
-        ) {
-            Some(inserted) => return inserted,
-            None => at = next_bucket::<K, V>(at, walk.end),
+    match reach_key::<K, V, L, Inserting>(pass, lead, &words, &value_words) {
+        Reach::New => Inserted::New,
+        Reach::Here(bucket) => {
+            replace::<K, V, L, Inserting>(
+                pass,
+                lead,
+                bucket.at,
+                &words,
+                &value_words,
+                &value_words,
+                bucket.number,
+            );
+            Inserted::Replaced
         }
+        Reach::Full => Inserted::Full,
     }
-    unreachable!()
 }
 
 impl<K: Object, V: Object, L: MergeLaw<V>> MapPass<Own, K, V, L> {
@@ -103,5 +105,34 @@ impl<K: Object, V: Object, L: MergeLaw<V>> MapPass<Own, K, V, L> {
         ensures atomics { (pass_view self.new).atomics ≤ (pass_view self.old).atomics + most_atomics (taken (pass_view self.old) (pass_view self.new)) result }
     {
         insert_key(&mut self.pass.pass, &lead.lead, key, value)
+    }
+
+    /// Merges a value into that of a key: the key has then what the merger makes of its old value and this one. A key that
+    /// isn't there gets the value, as by `insert`: `New`. It refuses for want of a bucket alone, where each is in use by
+    /// another key: `Full`.
+    ///
+    /// A new key and `Full` take place as those of `insert`, and cost the same. A key that is there makes no exchange: it
+    /// gets the words of its old value and puts those of the merged one, and takes place at the first put. The gets before
+    /// it are no call, and no other rank changes the value between them and the puts.
+    ///
+    /// Condition: the key's home is this rank, as `is_mine` tells, and the merger's function answers the map's law L.
+    #[inline]
+    pub fn merge<F: Fn(V, V) -> V + Sync>(
+        &mut self,
+        lead: &MapLead<K, V, L>,
+        key: &K,
+        value: &V,
+        merger: &Merger<V, L, F>,
+    ) -> Inserted
+        requires of { IsOf self.old lead.now }
+        requires mine { IsMine (pass_view self.old) (K.words key.now) }
+        requires answers { AnswersLaw V.passes V.words L.op (F.pre merger.now) (F.post merger.now) }
+        ensures stands { Stands L.op (lead_key lead.now) (pass_view self.old) (pass_view self.new) (event (pass_view self.old).rank (Merge (K.words key.now) (V.words value.now)) (inserted result) ∷ []) }
+        ensures of { IsOf self.new lead.now }
+        ensures gets { (pass_view self.new).gets ≤ (pass_view self.old).gets + (places (lead_key lead.now) * (1 + K.WORDS) + V.WORDS + taken (pass_view self.old) (pass_view self.new)) }
+        ensures puts { (pass_view self.new).puts ≡ (pass_view self.old).puts + words_put_by K.WORDS V.WORDS result }
+        ensures atomics { (pass_view self.new).atomics ≤ (pass_view self.old).atomics + most_atomics (taken (pass_view self.old) (pass_view self.new)) result }
+    {
+        merge_key(&mut self.pass.pass, &lead.lead, key, value, merger)
     }
 }

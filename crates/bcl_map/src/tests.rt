@@ -10,6 +10,7 @@ use bcl_words::{Bytes64, MergeLaw, Object, Pair};
 use std::alloc::Global;
 use std::test::Fail;
 
+mod merge;
 mod own;
 
 // Two numbers of two words become 0.

@@ -39,7 +39,7 @@ fn last_inserts<K: Object, V: Object, L: MergeLaw<V>>(
 }
 
 // What it finds of such a key.
-fn last_finds<K: Object, V: Object, L: MergeLaw<V>>(
+pub(super) fn last_finds<K: Object, V: Object, L: MergeLaw<V>>(
     lead: &MapLead<K, V, L>,
     passes: &mut Vec<MapPass<Own, K, V, L>>,
     key: &K,
@@ -185,17 +185,18 @@ fn keys_and_values_have_several_words(rt: HostRuntime) -> Result<(), Fail> {
     Ok(())
 }
 
-// Holds each of the ranks 0 and 1 until the other has entered, so that their parts begin side by side.
+// Holds each rank until all have entered, so that their parts begin side by side.
 #[derive(Drop)]
-struct Meeting {
-    entered: AtomicU64,
+pub(super) struct Meeting {
+    pub(super) ranks: u64,
+    pub(super) entered: AtomicU64,
 }
 
 impl Gate for Meeting {
     fn enter(&self, _rank: u32) {
         self.entered.fetch_add(1, Ordering::SeqCst);
         for _ in 0..100_000_000u64 {
-            if self.entered.load(Ordering::SeqCst) >= 2 {
+            if self.entered.load(Ordering::SeqCst) >= self.ranks {
                 return;
             }
         }
@@ -216,6 +217,7 @@ fn side_by_side<H: Threads + Sync>(
     let (lead, passes) = begun(alloc, home)?;
     let mut kits = indexers(alloc, &lead, passes, keys)?;
     let gate = Meeting {
+        ranks: 2,
         entered: AtomicU64::new(0),
     };
     superstep_all(rt, &mut kits, &gate);
