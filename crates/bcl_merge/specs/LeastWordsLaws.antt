@@ -16,7 +16,8 @@ second_is a b h = cond-true (comes_after a b) b a h
 first_is : (a b : List ℕ) → comes_after a b ≡ false → least_of a b ≡ a
 first_is a b h = cond-false (comes_after a b) b a h
 
-pub least_is_one : (a b : List ℕ) → (least_of a b ≡ a) ⊎ (least_of a b ≡ b)
+-- it is one of the two
+least_is_one : (a b : List ℕ) → (least_of a b ≡ a) ⊎ (least_of a b ≡ b)
 least_is_one a b = ⊎_elim (λ t. inr (second_is a b t)) (λ f. inl (first_is a b f)) (cases_Bool (comes_after a b))
 
 pub least_closed : (p : List ℕ → Bool) (a b : List ℕ) → p a ≡ true → p b ≡ true → p (least_of a b) ≡ true

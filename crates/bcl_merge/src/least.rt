@@ -10,8 +10,8 @@ use std::cmp::Ordering;
 
 /// The law by which two values become the one whose list of words comes first. Two lists are compared word by word from
 /// the first on, each as a number, and the first that differs decides. So numbers of one word become the least. A `u128`
-/// has its low word first, and it is the low word that decides, and the high one where the low ones are the same. Of
-/// pairs the first parts decide, and the second ones where the first are the same.
+/// has its low word first, so that one decides, and the high word where the low words are the same. Of pairs the first
+/// parts decide, and the second ones where the first are the same.
 #[derive(Clone, Copy, Debug)]
 pub struct LeastWords;
 
