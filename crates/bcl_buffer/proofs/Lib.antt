@@ -1,1 +1,3 @@
 pub mod Swaps
+pub mod Running
+pub mod Emptied

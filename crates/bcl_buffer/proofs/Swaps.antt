@@ -8,7 +8,7 @@ use Rattle.bcl_segment.specs.declared.layout.Layout.{Layout}
 use Rattle.bcl_buffer.specs.Lanes.{Lanes, lane}
 use Rattle.bcl_buffer.specs.Exchanges.{at, with_lane, AreWide, AreTurning, AllFill, Opened, IsTurned, IsNext, Turned, Settled}
 
-get_any : {A : Type 0} (xs : List A) (i : ℕ) (d e : A) → i < length xs → get_or xs i d ≡ get_or xs i e
+pub get_any : {A : Type 0} (xs : List A) (i : ℕ) (d e : A) → i < length xs → get_or xs i d ≡ get_or xs i e
 get_any [] i d e low = absurd (omega arith)
 get_any (x ∷ xs) zero d e low = refl
 get_any (x ∷ xs) (suc i) d e low = get_any xs i d e (omega arith)

@@ -57,4 +57,12 @@ impl<T: Copy> Lane<T> {
     {
         self.items.len() - self.from
     }
+
+    /// Lets go of its items, those too that were taken. Their room serves the next ones.
+    pub(crate) fn clear(&mut self)
+        ensures { self.new ≡ [] }
+    {
+        self.items.clear();
+        self.from = 0;
+    }
 }

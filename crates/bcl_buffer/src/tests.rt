@@ -1,6 +1,7 @@
 //! Buffers of two ranks, with two buckets each: the keys 0 and 2 have their home at rank 0, and 3 and 6 at rank 1.
 
-ghost use Rattle.std.specs.Prelude.{◌≡◌, ◌<◌, IfOk};
+ghost use Rattle.std.specs.Prelude.{◌≡◌, ◌<◌, ◌≤◌, ◌^◌, IfOk};
+ghost use Rattle.bcl_segment.specs.Places.{places};
 ghost use Rattle.bcl_buffer.specs.declared.buffer.State.TheVariants.{Filling};
 
 use crate::{Buffer, exchange};
@@ -9,19 +10,27 @@ use bcl_words::NoMemory;
 use std::alloc::Global;
 use std::test::Fail;
 
+mod drain;
+
 const SHAPE: Layout = Layout {
     ranks: 2,
     per_rank: 2,
 };
 
 // A buffer of a rank, with these pairs.
-fn filled(alloc: Global, rank: u32, pairs: &[(u64, u64)]) -> Result<Buffer<u64, u64>, NoMemory>
-    requires rank { rank < 2 }
+fn filled(
+    alloc: Global,
+    shape: Layout,
+    rank: u32,
+    pairs: &[(u64, u64)],
+) -> Result<Buffer<u64, u64>, NoMemory>
+    requires rank { rank < shape.ranks }
+    requires places { (1 ≤ places shape) × (places shape ≤ 2 ^ 27) }
     ensures rank { IfOk result (λ b. b.rank ≡ rank) }
-    ensures shape { IfOk result (λ b. b.shape ≡ record { ranks = 2; per_rank = 2 }) }
+    ensures shape { IfOk result (λ b. b.shape ≡ shape) }
     ensures fills { IfOk result (λ b. b.state ≡ Filling) }
 {
-    let mut buffer = Buffer::new(alloc, SHAPE, rank)?;
+    let mut buffer = Buffer::new(alloc, shape, rank)?;
     for (key, value) in pairs {
         buffer.insert(*key, *value)?;
     }
@@ -43,7 +52,7 @@ fn taken(alloc: Global, buffer: Buffer<u64, u64>) -> Result<Vec<(u64, u64)>, NoM
 
 #[test]
 fn pairs_wait_in_the_lane_of_their_home(rt: HostRuntime) -> Result<(), Fail> {
-    let buffer = filled(rt.alloc(), 1, &[(3, 30), (2, 20), (6, 60), (3, 30)])?;
+    let buffer = filled(rt.alloc(), SHAPE, 1, &[(3, 30), (2, 20), (6, 60), (3, 30)])?;
     assert!(rt; buffer.is_filling());
     assert_eq!(rt; buffer.left(), 4);
     let pairs = taken(rt.alloc(), buffer)?;
@@ -56,8 +65,8 @@ fn pairs_wait_in_the_lane_of_their_home(rt: HostRuntime) -> Result<(), Fail> {
 
 #[test]
 fn ranks_get_the_pairs_of_their_keys(rt: HostRuntime) -> Result<(), Fail> {
-    let first = filled(rt.alloc(), 0, &[(3, 30), (2, 20), (6, 60)])?;
-    let second = filled(rt.alloc(), 1, &[(2, 21), (3, 31), (0, 1)])?;
+    let first = filled(rt.alloc(), SHAPE, 0, &[(3, 30), (2, 20), (6, 60)])?;
+    let second = filled(rt.alloc(), SHAPE, 1, &[(2, 21), (3, 31), (0, 1)])?;
     let mut buffers = Vec::new(rt.alloc());
     buffers.push(first)?;
     buffers.push(second)?;
