@@ -1,5 +1,5 @@
--- The steps of a find.
-use Rattle.std.proofs.Common.{◌≡◌, ◌≢◌, ℕ, zero, suc, ◌+◌, ◌*◌, ◌<◌, ◌≤◌, List, [], ◌∷◌, length, take, get_or, slice_index, slice_set, refl, sym, ap, ◌∙◌, subst, ⊎_elim, arith, Some}
+-- The gets of the words of a value, and what a get needs in any call.
+use Rattle.std.proofs.Common.{◌≡◌, ℕ, zero, suc, ◌+◌, ◌*◌, ◌<◌, ◌≤◌, List, [], ◌∷◌, length, take, get_or, slice_index, slice_set, refl, sym, ap, ◌∙◌, subst, ⊎_elim, arith, Some}
 use Rattle.std.proofs.lemmas.List.Elements.{All-nil, All-cons}
 use Rattle.std.specs.List.{All}
 use Rattle.std.proofs.lemmas.List.{length-take-le, get_or_append_left, get_or-append-add, get_or-take}
@@ -14,25 +14,22 @@ use Rattle.bcl_words.proofs.Fitting.{past}
 use Rattle.bcl_event.specs.History.{state_by}
 use Rattle.bcl_event.specs.declared.map.MapCall.{MapCall}
 use Rattle.bcl_event.specs.declared.map.MapCall.TheVariants.{Find}
-use Rattle.bcl_event.specs.declared.map.MapReply.TheVariants.{Absent}
-use Rattle.bcl_event.specs.Map.{Pairs, value_at, found}
+use Rattle.bcl_event.specs.Map.{Pairs, found}
 use Rattle.bcl_map.specs.declared.shape.Shape.{Shape}
 use Rattle.bcl_map.specs.declared.note.Lock.{Lock}
 use Rattle.bcl_map.specs.declared.note.Lock.TheVariants.{Shown as shown, Reserved as reserved, Held as held}
 use Rattle.bcl_map.specs.declared.note.Before.{Before}
-use Rattle.bcl_map.specs.Map.{places, Words, Lawful, finding, owning, filling, home, path, next, HasPlace, permits, size, tag, Lies, content}
-use Rattle.bcl_map.specs.Cells.{Cell, free, kept, busy, key_of, used, Bars, control}
-use Rattle.bcl_map.specs.Notes.{Claim, passed, keyed, alike, settled, certain, lacking, lent, grips, many, met, Note, Has, reads, reads_all, readers, Says, AllSay}
-use Rattle.bcl_map.specs.Fits.{HasValue, MayWrite, Named, IsContent, PlaceOk, Fits, AreTyped, Holds}
-use Rattle.bcl_map.specs.Steps.{with_claims, Step, control_at}
+use Rattle.bcl_map.specs.Map.{Words, Lawful, finding, owning, filling, home, path, next, permits, size, Lies, content}
+use Rattle.bcl_map.specs.Cells.{Cell, free, kept, busy, key_of}
+use Rattle.bcl_map.specs.Notes.{Claim, passed, keyed, alike, settled, certain, lacking, lent, grips, many, met, Note, Has, reads, reads_all, AllSay}
+use Rattle.bcl_map.specs.Fits.{HasValue, MayWrite, Named, IsContent, Fits, AreTyped, Holds}
+use Rattle.bcl_map.specs.Steps.{with_claims, Step}
 use Rattle.std.specs.Prelude.{Bool}
 use Rattle.bcl_phase.specs.Rule.{Moves}
-use Rattle.bcl_map.specs.Finds.{Typed, MaySee, walked, comparing, reading, Passes, FindsControl, FindsKey, FindsValue}
-use Rattle.bcl_map.proofs.Keys.{no_value}
-use Rattle.bcl_map.proofs.Counts.{bars_key}
+use Rattle.bcl_map.specs.Finds.{Typed, MaySee, reading, FindsValue}
+use Rattle.bcl_map.specs.Walking.{walked}
 use Rattle.bcl_map.proofs.Frames.{SameAt}
-use Rattle.bcl_map.proofs.Known.{walked_knows, knows_passed}
-use Rattle.bcl_map.proofs.Gets.{near, shows_tag, absent_behind, absent_at_end, gets}
+use Rattle.bcl_map.proofs.Gets.{near, gets}
 
 -- ---- claims that read no place and write none
 
@@ -114,13 +111,6 @@ module _ (kw vw : ℕ) (op : Words → Words → Words) (L : Shape) (law : Lawfu
   one_find : All (permits L p r) (Find k ∷ [])
   one_find = All-cons (permits L p r) (Find k) [] may_find (All-nil (permits L p r))
 
-  absent : (t : Pairs) → (HasPlace k t → ⊥) → (next op L t (Find k)).0 ≡ Absent
-  absent t none = ap found (no_value k t none)
-
-  -- the places that the walk has passed
-  others : (t : Pairs) (cells : List Cell) → AllSay L p t cells r (walked k d) → Says L p t cells r (passed k d)
-  others t cells says = knows_passed L p t cells r k d (walked k d) says (walked_knows k d)
-
   module _ (x : Note) (as' : List Claim) (at : x.claims ≡ as') (plain : ArePlain as') (ws : List ℕ) (t : Pairs) (notes : List Note) (is : get_elem? notes r ≡ some x) (f : Fits kw vw L p ws t notes) (w : ℕ) where
     -- on, with other claims
     pub on : (tells : ℕ → Pairs → List (MapCall Words Words) → Note → Type 0) (bs : List Claim) → ArePlain bs → AllSay L p t f.cells r bs → tells (slice_index ws w) t [] (with_claims x bs)
@@ -131,53 +121,6 @@ module _ (kw vw : ℕ) (op : Words → Words → Words) (L : Shape) (law : Lawfu
     ends : (tells : ℕ → Pairs → List (MapCall Words Words) → Note → Type 0) → tells (slice_index ws w) t (Find k ∷ []) (with_claims x [])
         → (did' : List (MapCall Words Words)) × (y' : Note) × All (permits L p r) did' × Fits kw vw L p (slice_set ws w (slice_index ws w)) (state_by (next op L) t did') (slice_set notes r y') × tells (slice_index ws w) t did' y'
     ends tells told = gets L law kw vw op p r x w tells ws t notes f (with_claims x []) (Find k ∷ []) is (plain_same x as' [] at plain tt) tt (λ j. refl) one_find refl told
-
-    -- the place has another key
-    passes : (tells : ℕ → Pairs → List (MapCall Words Words) → Note → Type 0) → ((e : ℕ) → e < d → Bars k (get_or f.cells (path L k e) free)) → Bars k (get_or f.cells (path L k d) free)
-        → ((did : List (MapCall Words Words)) (y : Note) → state_by (next op L) t did ≡ t → Passes kw vw op L k d x t did y → tells (slice_index ws w) t did y)
-        → (did' : List (MapCall Words Words)) × (y' : Note) × All (permits L p r) did' × Fits kw vw L p (slice_set ws w (slice_index ws w)) (state_by (next op L) t did') (slice_set notes r y') × tells (slice_index ws w) t did' y'
-    passes tells before bars told = ⊎_elim
-        (λ (less : suc d < places L). on tells (walked k (suc d)) (tt, tt) (more, tt) (told [] (with_claims x (walked k (suc d))) refl (record { on = λ _. (refl, refl); ends = λ over. absurd (omega arith) })))
-        (λ (most : places L ≤ suc d). ends tells (told (Find k ∷ []) (with_claims x []) refl (record { on = λ under. absurd (omega arith); ends = λ _. (refl, absent t (absent_at_end L law kw vw p ws t notes f k (λ e below. more e (omega arith))), refl) })))
-        (cases_lt (suc d) (places L))
-      where
-        more : (e : ℕ) → e < suc d → Bars k (get_or f.cells (path L k e) free)
-        more e below = dite (ℕ_discrete e d) (λ (same : e ≡ d). subst (λ (z : ℕ). Bars k (get_or f.cells (path L k z) free)) (sym same) bars) (λ ne. before e (omega arith))
-
-  -- a get of the control word
-  pub finds_control : (x : Note) → x.claims ≡ walked k d → Step kw vw op L p r x (control_at kw vw op L k d) (λ n. n) (FindsControl kw vw op L k d x)
-  finds_control x at ws t notes is f small =
-      let w : ℕ = control_at kw vw op L k d in
-      let ok : PlaceOk kw vw L p ws t notes (path L k d) (get_or f.cells (path L k d) free) = f.each (path L k d) (near L law k d) in
-      let says : AllSay L p t f.cells r (walked k d) = subst (AllSay L p t f.cells r) at (f.noted r x is) in
-      let plain = walked_plain k d in
-      by_cell (get_or f.cells (path L k d) free) _
-      (λ (e : get_or f.cells (path L k d) free ≡ free).
-      let zero_there : slice_index ws w ≡ 0 = ok.shows ∙ ap (control L (readers (path L k d) notes)) e in
-      ends x (walked k d) at plain ws t notes is f w (FindsControl kw vw op L k d x) (record {
-        still = refl;
-        free = λ _. (refl, absent t (absent_behind L law kw vw p ws t notes f k d (others t f.cells says) (ap used e)), refl);
-        same_home = λ no _. absurd (no zero_there);
-        other_home = λ no _. absurd (no zero_there);
-      }))
-      (λ (o : Words) (e : key_of (get_or f.cells (path L k d) free) ≡ some o).
-      let shown_there = shows_tag L law (readers (path L k d) notes) (get_or f.cells (path L k d) free) o e in
-      let some_there : slice_index ws w ≢ 0 = λ z. shown_there.0 (sym ok.shows ∙ z) in
-      let tag_is : tag (slice_index ws w) ≡ home L o = ap tag ok.shows ∙ shown_there.1 in
-      dite (ℕ_discrete (home L o) (home L k))
-      (λ (same : home L o ≡ home L k). on x (walked k d) at plain ws t notes is f w (FindsControl kw vw op L k d x) (comparing k d 0) (tt, plain) ((o, e, same, (λ g l. absurd (omega arith))), says) (record {
-        still = refl;
-        free = λ z. absurd (some_there z);
-        same_home = λ _ _. (refl, refl);
-        other_home = λ _ no. absurd (no (tag_is ∙ same));
-      }))
-      (λ (ne : home L o ≢ home L k). passes x (walked k d) at plain ws t notes is f w (FindsControl kw vw op L k d x) (others t f.cells says) (bars_key k o (get_or f.cells (path L k d) free) e (λ z. ne (ap (home L) z)))
-      (λ did y still pass. record {
-        still = still;
-        free = λ z. absurd (some_there z);
-        same_home = λ _ z. absurd (ne (sym tag_is ∙ z));
-        other_home = λ _ _. pass;
-      })))
 
   -- whoever may see the value of a key meets no place that another rank writes
   module _ (x : Note) (as' : List Claim) (at : x.claims ≡ as') (plain : ArePlain as') (ws : List ℕ) (t : Pairs) (notes : List Note) (is : get_elem? notes r ≡ some x) (o : Words) (same : home L o ≡ home L k) where
@@ -196,47 +139,6 @@ module _ (kw vw : ℕ) (op : Words → Words → Words) (L : Shape) (law : Lawfu
     whole i free e ok = absurd (some-ne-none o (sym e))
     whole i (kept a) e ok = subst (λ (z : Words). (v : Words) × HasValue kw vw L t z v × Lies kw vw ws i (content kw vw z v) (kw + vw)) (some-injective a o e) ok
     whole i (busy l q a old v n) e ok = let is' = some-injective a o e in absurd (none_writes i l q old v n (subst (λ (z : Words). MayWrite kw vw L p l q z n) is' ok.4) (subst (λ (z : Words). Named kw vw L notes q i l z old v n) is' ok.5))
-
-  -- a get of a word of a key
-  pub finds_key : (g : ℕ) (x : Note) → kw ≤ 8 → IsWords kw k → g < kw → x.claims ≡ comparing k d g → Step kw vw op L p r x (size kw vw * path L k d + (1 + g)) (λ n. n) (FindsKey kw vw op L k d g x)
-  finds_key g x room key_words low at ws t notes is f small =
-      let i : ℕ = path L k d in
-      let w : ℕ = size kw vw * path L k d + (1 + g) in
-      let plain : ArePlain (comparing k d g) = (tt, walked_plain k d) in
-      let says : AllSay L p t f.cells r (comparing k d g) = subst (AllSay L p t f.cells r) at (f.noted r x is) in
-      let o : Words = says.0.0 in
-      let there : key_of (get_or f.cells i free) ≡ some o = says.0.1 in
-      let got = whole x (comparing k d g) at plain ws t notes is o says.0.2 i (get_or f.cells i free) there (f.each i (near L law k d)).content in
-      let v : Words = got.0 in
-      let valued : HasValue kw vw L t o v = got.1 in
-      let word_is : slice_index ws w ≡ slice_index o g = got.2 g (omega arith) ∙ key_word kw vw o v g low (subst (λ (n : ℕ). g < n) (sym (own_words kw o room valued.0)) low) in
-      dite (ℕ_discrete (slice_index o g) (slice_index k g))
-      (λ (agree : slice_index o g ≡ slice_index k g).
-      let all_agree : (b : ℕ) → b < suc g → slice_index o b ≡ slice_index k b = λ b below. dite (ℕ_discrete b g) (λ (e : b ≡ g). ap (slice_index o) e ∙ (agree ∙ ap (slice_index k) (sym e))) (λ ne. says.0.3 b (omega arith)) in
-      dite (ℕ_discrete (suc g) kw)
-      (λ (last : suc g ≡ kw).
-      let is_key : o ≡ k = same_object kw o k valued.0 key_words (λ b below. all_agree b (omega arith)) in
-      let value_there : value_at k t ≡ Some v = subst (λ (z : Words). value_at z t ≡ Some v) is_key valued.2 in
-      on x (comparing k d g) at plain ws t notes is f w (FindsKey kw vw op L k d g x) (reading k d v) (tt, (tt, tt)) (there ∙ ap some is_key, ((sure, value_there), tt)) (record {
-        still = refl;
-        more = λ _ less. absurd (omega arith);
-        all = λ _ _. (v, (refl, refl), valued.1, value_there);
-        other = λ no. absurd (no (word_is ∙ agree));
-      }))
-      (λ ne. on x (comparing k d g) at plain ws t notes is f w (FindsKey kw vw op L k d g x) (comparing k d (suc g)) (tt, walked_plain k d) ((o, there, says.0.2, all_agree), says.1) (record {
-        still = refl;
-        more = λ _ _. (refl, refl);
-        all = λ _ last. absurd (ne last);
-        other = λ no. absurd (no (word_is ∙ agree));
-      })))
-      (λ (ne : slice_index o g ≢ slice_index k g).
-      passes x (comparing k d g) at plain ws t notes is f w (FindsKey kw vw op L k d g x) (others t f.cells says.1) (bars_key k o (get_or f.cells i free) there (λ z. ne (ap (λ (l : Words). slice_index l g) z)))
-      (λ did y still pass. record {
-        still = still;
-        more = λ e _. absurd (ne (sym word_is ∙ e));
-        all = λ e _. absurd (ne (sym word_is ∙ e));
-        other = λ _. pass;
-      }))
 
   -- a get of a word of the value
   pub finds_value : (v : Words) (g : ℕ) (x : Note) → kw ≤ 8 → g < vw → x.claims ≡ reading k d v → Step kw vw op L p r x (size kw vw * path L k d + (1 + (kw + g))) (λ n. n) (FindsValue kw vw op L k d v g x)

@@ -5,8 +5,7 @@ use Rattle.bcl_event.specs.Map.{Pairs}
 use Rattle.bcl_map.specs.Map.{Words}
 use Rattle.bcl_map.specs.Cells.{Cell}
 use Rattle.bcl_map.specs.Notes.{Claim, passed, Has, Knows, Says, AllSay}
-use Rattle.bcl_map.specs.Finds.{walked}
-use Rattle.bcl_map.specs.Inserts.{heading}
+use Rattle.bcl_map.specs.Walking.{walked, heading}
 
 -- a walk knows the places that it has passed
 pub walked_knows : (k : Words) (d : ℕ) → Knows k d (walked k d)

@@ -1,4 +1,4 @@
--- How the steps of an insertion or a merge go on from one another, and what it costs.
+-- How the steps of a call go on from one another along a path, and what it costs.
 use Rattle.std.proofs.Common.{◌≡◌, ◌≢◌, ℕ, zero, suc, ◌+◌, ◌<◌, ◌≤◌, ◌⊎◌, inl, inr, ⊎_elim, List, [], ◌∷◌, ◌++◌, length, drop, slice_index, cond, Bool, true, false, true≢false, refl, sym, ap, ap₂, ◌∙◌, subst, arith, le_trans, le_refl, eq-eqb}
 use Rattle.std.specs.Prelude.{max}
 use Rattle.std.proofs.Math.Nat.{le-max_left, le-max_right, max-le}
@@ -8,7 +8,7 @@ use mathlib.Core.List.{IsPrefix, append_assoc, append_cancel_left}
 use Rattle.bcl_event.specs.History.{event, of, state_after, IsLegal, events}
 use Rattle.bcl_event.specs.declared.map.MapCall.{MapCall}
 use Rattle.bcl_event.specs.declared.map.MapReply.{MapReply}
-use Rattle.bcl_event.specs.declared.map.MapReply.TheVariants.{New, Replaced, Full}
+use Rattle.bcl_event.specs.declared.map.MapReply.TheVariants.{New, Replaced}
 use Rattle.bcl_event.specs.Map.{Pairs}
 use Rattle.bcl_phase.specs.Views.{Tick, get, put, atomic, seen_by}
 use Rattle.bcl_phase.specs.Told.{Took, Told}
@@ -20,15 +20,15 @@ use Rattle.bcl_map.specs.declared.note.Note.{Note}
 use Rattle.bcl_map.specs.declared.note.Before.{Before}
 use Rattle.bcl_map.specs.declared.note.Before.TheVariants.{Nothing, Value as before}
 use Rattle.bcl_map.specs.Map.{Words, ranks, first_pairs, next, permits}
-use Rattle.bcl_map.specs.Notes.{Claim, alike, Knows}
+use Rattle.bcl_map.specs.Notes.{Claim, alike}
 use Rattle.bcl_map.specs.Steps.{Goes_on}
-use Rattle.bcl_map.specs.Finds.{walked, reading, value_of}
-use Rattle.bcl_map.specs.Inserts as steps
-use Rattle.bcl_map.specs.Inserts.{heading, matching, facing, writing, strays, least, SeesControl, SeesKey, Takes, PutsWord, Replaces}
+use Rattle.bcl_map.specs.Finds.{reading, value_of}
+use Rattle.bcl_map.specs.Walking as steps
+use Rattle.bcl_map.specs.Walking.{Walker, walked, heading, matching, facing, strays, least, SeesControl, SeesKey}
+use Rattle.bcl_map.specs.Inserts.{writing, Takes, PutsWord, Replaces}
 use Rattle.bcl_map.specs.Calls.{MapView, Stands}
 use Rattle.bcl_map.specs.Costs.{Events, is_new, others_new, taken, keys}
-use Rattle.bcl_map.specs.Reaches.{KnowsOwn, IsHeading, IsMatching, level, Comes, Ends, IsFacing, IsPast, Meets}
-use Rattle.bcl_map.proofs.Known.{heading_knows}
+use Rattle.bcl_map.specs.Reaches.{KnowsOwn, IsHeading, IsMatching, level, Comes, Ends, IsFacing, IsFree, IsPast, Meets}
 use Rattle.bcl_map.proofs.Taken.{others_more, keys_rise, keys_past}
 
 -- ---- what the claims of a walk say
@@ -71,8 +71,8 @@ chained a b c x y z h k = omega arith
 chained_end : (a b c x y z n : ℕ) → a + y ≤ b + x → b + z ≤ c + y + n → a + z ≤ c + x + n
 chained_end a b c x y z n h k = omega arith
 
-same_count : (x y : ℕ) → x ≡ y → x ≤ y + 0
-same_count x y e = omega arith
+more_count : (x y n : ℕ) → x ≡ y → x ≤ y + n
+more_count x y n e = omega arith
 
 -- what a pass knows of its own rank it knew before steps that make no call
 knows_before : (u v : MapView) → Still u v → KnowsOwn v → KnowsOwn u
@@ -120,22 +120,11 @@ module _ (op : Words → Words → Words) (L : Shape) where
       level_same : level op L w ≡ level op L v
       level_same = ap₂ (λ (seen : Events) (as' : List Claim). max (keys op L seen) (least as')) still.seen claims
 
-  pub past_behind : (c : MapCall Words Words) (k : Words) (d : ℕ) (u v w : MapView) → Comes op L u v → IsPast op L c k d v w → IsPast op L c k d u w
+  pub past_behind : (c : Walker) (k : Words) (d : ℕ) (u v w : MapView) → Comes op L u v → IsPast op L c k d v w → IsPast op L c k d u w
   past_behind c k d u v w comes past = record {
     on = λ more. let on = past.on more in (comes_trans u v w comes on.0, on.1);
-    ends = λ last. let end = past.ends last in (ends_behind c Full u v w comes end.0, end.1);
+    ends = λ last. let end = past.ends last in (ends_behind c.call c.past u v w comes end.0, end.1);
   }
-
-  pub meets_behind : (c : MapCall Words Words) (k : Words) (d n : ℕ) (u v w : MapView) → Comes op L u v → Meets op L c k d n v w → Meets op L c k d n u w
-  meets_behind c k d n u v w comes meets = record {
-    same_home = λ same. let on = meets.same_home same in (comes_trans u v w comes on.0, on.1);
-    other_home = λ other. past_behind c k d u v w comes (meets.other_home other);
-  }
-
-  -- a second look at a place, behind a lost exchange
-  pub meets_again : (c : MapCall Words Words) (k : Words) (d n : ℕ) (u v m w : MapView) → Comes op L u v → Comes op L v m → IsHeading k (d + 1) m → (Knows k (d + 1) m.note.claims → n ≢ 0) → (n ≢ 0 → Meets op L c k d n m w) → Meets op L c k d n u w
-  meets_again c k d n u v m w first second at some met = meets_behind c k d n u m w (comes_trans u v m first second)
-      (met (some (subst (Knows k (d + 1)) (sym at) (heading_knows (strays m.note.claims) k (d + 1) (least m.note.claims)))))
 
   -- ---- by one step
 
@@ -190,29 +179,32 @@ module _ (op : Words → Words → Words) (L : Shape) where
           is_matching w.note.claims s k d g (keys op L told.history) claims,
         )
 
-        goes_past : (kw vw : ℕ) (c : MapCall Words Words) → steps.GoesPast kw vw op L c s k d v.note (state_after (next op L) (first_pairs L) told.history) told.did w.note → IsPast op L c k d v w
+        goes_past : (kw vw : ℕ) (c : Walker) → steps.GoesPast kw vw op L c s k d v.note (state_after (next op L) (first_pairs L) told.history) told.did w.note → IsPast op L c k d v w
         goes_past kw vw c past = record {
           on = λ more. heading_by (past.on more);
-          ends = λ last. let end = past.ends last in (ends_by get then n c Full took told end.0 end.1 many (same_count w.atomics v.atomics took.atomics_rise) (inl took.atomics_rise), ap (λ (x : Note). x.claims) end.2);
+          ends = λ last. let end = past.ends last in (ends_by get then n c.call c.past took told end.0 end.1 many (more_count w.atomics v.atomics (is_new c.past) took.atomics_rise) (inl took.atomics_rise), ap (λ (x : Note). x.claims) end.2);
         }
 
-        meets : (kw vw : ℕ) (c : MapCall Words Words) (control : ℕ) → steps.Meets kw vw op L c s k d v.note control (state_after (next op L) (first_pairs L) told.history) told.did w.note → Meets op L c k d control v w
+        meets : (kw vw : ℕ) (c : Walker) (control : ℕ) → steps.Meets kw vw op L c s k d v.note control (state_after (next op L) (first_pairs L) told.history) told.did w.note → Meets op L c k d control v w
         meets kw vw c control tells = record {
           same_home = λ is. goes_to 0 (tells.same_home is);
           other_home = λ not. goes_past kw vw c (tells.other_home not);
         }
 
-  module _ (kw vw : ℕ) (c : MapCall Words Words) (k : Words) (d : ℕ) (v w : MapView) where
+  module _ (kw vw : ℕ) (c : Walker) (k : Words) (d : ℕ) (v w : MapView) where
     -- a get of a control word
-    pub facing_by : (strayed : Bool) (n : ℕ) → Took ranks first_pairs (next op) permits L get v w → Told first_pairs (next op) L v (SeesControl kw vw op L c strayed k d v.note) n w
-        → n ≡ 0 → Comes op L v w × IsFacing op L k d w
-    facing_by strayed n took told free = let on = told.fact.free free in let claims : w.note.claims ≡ facing L k d (keys op L told.history) = ap (λ (x : Note). x.claims) on.1 in (
-      comes_by v w _ n took told told.fact.many true on.0 (λ no. absurd (true≢false no)) (λ _. ap least claims) (not_strayed (strays w.note.claims) (ap strays claims)),
-      (
-        subst (λ (z : List Claim). z ≡ facing L k d (least z)) (sym claims) refl,
-        subst (λ (n : ℕ). keys op L w.seen ≤ n) (sym (ap least claims)) (subst (λ (z : Events). keys op L z ≤ keys op L told.history) (sym (still_by ranks first_pairs (next op) permits L get v w _ n took told on.0).seen) (keys_rise op L v.seen told.history told.known)),
-      ),
-    )
+    pub free_by : (strayed : Bool) (n : ℕ) → Took ranks first_pairs (next op) permits L get v w → Told first_pairs (next op) L v (SeesControl kw vw op L c strayed k d v.note) n w
+        → n ≡ 0 → IsFree op L c k d v w
+    free_by strayed n took told free = let sees = told.fact.free free in record {
+      ends = λ stops. let end = sees.ends stops in (ends_by v w get _ n c.call c.past took told end.0 end.1 told.fact.many (more_count w.atomics v.atomics (is_new c.past) took.atomics_rise) (inl took.atomics_rise), ap (λ (x : Note). x.claims) end.2);
+      on = λ goes. let on = sees.on goes in let claims : w.note.claims ≡ facing L k d (keys op L told.history) = ap (λ (x : Note). x.claims) on.1 in (
+        comes_by v w _ n took told told.fact.many true on.0 (λ no. absurd (true≢false no)) (λ _. ap least claims) (not_strayed (strays w.note.claims) (ap strays claims)),
+        (
+          subst (λ (z : List Claim). z ≡ facing L k d (least z)) (sym claims) refl,
+          subst (λ (n : ℕ). keys op L w.seen ≤ n) (sym (ap least claims)) (subst (λ (z : Events). keys op L z ≤ keys op L told.history) (sym (still_by ranks first_pairs (next op) permits L get v w _ n took told on.0).seen) (keys_rise op L v.seen told.history told.known)),
+        ),
+      );
+    }
 
     pub meets_by : (n e : ℕ) → Took ranks first_pairs (next op) permits L get v w → IsHeading k e v → Told first_pairs (next op) L v (SeesControl kw vw op L c (strays v.note.claims) k d v.note) n w
         → n ≢ 0 → Meets op L c k d n v w
@@ -232,6 +224,7 @@ module _ (op : Words → Words → Words) (L : Shape) where
       pub past_by : n ≢ slice_index k g → IsPast op L c k d v w
       past_by other = goes_past v w _ n took told told.fact.many (strays v.note.claims) refl (matching_none v.note.claims k d g at) k d kw vw c (told.fact.other other)
 
+  module _ (kw vw : ℕ) (c : MapCall Words Words) (k : Words) (d : ℕ) (v w : MapView) where
     -- the exchange
     module _ (value : Words) (n : ℕ) (took : Took ranks first_pairs (next op) permits L atomic v w) (own : KnowsOwn v) (at : IsFacing op L k d v) (told : Told first_pairs (next op) L v (Takes kw vw op L c k value d v.note) n w) where
       pub won_by : n ≡ 0 → Ends op L c New v w × (w.note.claims ≡ writing L k d Nothing value 0)
@@ -267,7 +260,7 @@ module _ (op : Words → Words → Words) (L : Shape) where
     -- the put that replaces a value
     module _ (value old : Words) (n : ℕ) (took : Took ranks first_pairs (next op) permits L put v w) (reads : least v.note.claims ≡ 0) (told : Told first_pairs (next op) L v (λ _. Replaces kw vw op L c k value d old v.note) n w) where
       replaced_by : told.did ≡ c ∷ [] → (next op L (state_after (next op L) (first_pairs L) told.history) c).0 ≡ Replaced → Ends op L c Replaced v w
-      replaced_by one reply = ends_by v w put _ n c Replaced took told one reply (none (least v.note.claims) (keys op L told.history) reads) (same_count w.atomics v.atomics took.atomics_rise) (inl took.atomics_rise)
+      replaced_by one reply = ends_by v w put _ n c Replaced took told one reply (none (least v.note.claims) (keys op L told.history) reads) (more_count w.atomics v.atomics 0 took.atomics_rise) (inl took.atomics_rise)
         where
           none : (x y : ℕ) → x ≡ 0 → x ≤ y
           none x y e = omega arith

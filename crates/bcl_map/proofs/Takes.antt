@@ -23,7 +23,8 @@ use Rattle.bcl_map.specs.Cells.{Cell, free, kept, busy, key_of, used, control}
 use Rattle.bcl_map.specs.Notes.{Claim, passed, keyed, alike, settled, certain, lacking, lent, grips, many, met, Note, Has, reads_all, readers, Says, AllSay}
 use Rattle.bcl_map.specs.Fits.{MayBeRead, PlaceOk, Placed, Fits, fits, AreTyped, Holds}
 use Rattle.bcl_map.specs.Steps.{with_claims, Step, control_at}
-use Rattle.bcl_map.specs.Inserts.{heading, facing, writing, least, Stores, ready, Takes}
+use Rattle.bcl_map.specs.Walking.{heading, facing, least}
+use Rattle.bcl_map.specs.Inserts.{writing, Stores, ready, Takes}
 use Rattle.bcl_map.proofs.Keys.{same_or_not, no_value, same_place, has_place}
 use Rattle.bcl_map.proofs.Counts.{set_here, bars_key, bars_used, in_use}
 use Rattle.bcl_map.proofs.Frames.{SameAt, readers_stay, Stays, here, carry, changes}

@@ -1,20 +1,16 @@
 -- What the calls of a map say.
-use Rattle.std.specs.Prelude.{◌≡◌, ℕ, suc, ◌+◌, ◌*◌, ◌<◌, ◌≤◌, List, [], ◌∷◌, Option, Some, None, nat_lt, if◌then◌else◌}
+use Rattle.std.specs.Prelude.{◌≡◌, ℕ, ◌+◌, ◌*◌, ◌≤◌, List, Option, Some, None, nat_lt, if◌then◌else◌}
 use Rattle.bcl_segment.specs.declared.layout.Layout.{Layout}
 use Rattle.bcl_segment.specs.Places as segment
 use Rattle.bcl_event.specs.declared.event.Event.{Event}
 use Rattle.bcl_event.specs.declared.map.MapCall.{MapCall}
-use Rattle.bcl_event.specs.declared.map.MapCall.TheVariants.{Find}
 use Rattle.bcl_event.specs.declared.map.MapReply.{MapReply}
 use Rattle.bcl_event.specs.declared.map.MapReply.TheVariants.{Value, Absent}
-use Rattle.bcl_event.specs.History.{event}
 use Rattle.bcl_phase.specs.declared.view.View.{View}
 use Rattle.bcl_phase.specs.Stands as phase
-use Rattle.bcl_phase.specs.Stands.{Still}
 use Rattle.bcl_map.specs.declared.shape.Shape.{Shape}
-use Rattle.bcl_map.specs.Map.{Words, places, home, ranks, first_pairs, next, permits, IsShaped}
+use Rattle.bcl_map.specs.Map.{Words, home, ranks, first_pairs, next, permits, IsShaped}
 use Rattle.bcl_map.specs.Notes.{Note}
-use Rattle.bcl_map.specs.Finds.{walked}
 
 -- what a pass knows of a map
 abbrev pub MapView : Type 0
@@ -38,11 +34,6 @@ IsSeated kw vw key layout = (key ≡ None → ⊥) × ((shape : Shape) → key �
 pub record IsBucketAt (words : ℕ) (layout : Layout) (at place : ℕ) : Type 0 where
   pub first : at ≡ words * place
   pub room : at + words ≤ segment.places layout
-
--- the place with this number on the path of a key is passed: the find goes on, or ends behind the last
-pub record IsPassed (op : Words → Words → Words) (shape : Shape) (key : Words) (number : ℕ) (old new : MapView) : Type 0 where
-  pub on : suc number < places shape → Still old new × (new.note.claims ≡ walked key (suc number))
-  pub ends : places shape ≤ suc number → Stands op shape old new (event old.rank (Find key) Absent ∷ []) × (new.note.claims ≡ [])
 
 -- the bucket of so many words after one: after the last comes the first
 abbrev pub after : ℕ → ℕ → ℕ → ℕ

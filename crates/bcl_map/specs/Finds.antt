@@ -1,14 +1,13 @@
--- What the steps of a find tell.
--- A find walks along the path of its key, compares the words of keys of the same home, and gets the words of the value.
-use Rattle.std.specs.Prelude.{◌≡◌, ◌≢◌, ℕ, zero, suc, ◌<◌, ◌≤◌, ◌⊎◌, List, [], ◌∷◌, slice_index, Some, Bool}
-use Rattle.bcl_words.specs.Words.{IsWords}
+-- What the steps of a find tell, behind its walk.
+-- At a place that has the key it gets the words of the value.
+use Rattle.std.specs.Prelude.{◌≡◌, ℕ, suc, ◌<◌, ◌⊎◌, List, [], ◌∷◌, slice_index, Some, Bool}
 use Rattle.bcl_event.specs.History.{state_by}
 use Rattle.bcl_event.specs.declared.map.MapCall.{MapCall}
 use Rattle.bcl_event.specs.declared.map.MapCall.TheVariants.{Find}
-use Rattle.bcl_event.specs.declared.map.MapReply.TheVariants.{Value, Absent}
+use Rattle.bcl_event.specs.declared.map.MapReply.TheVariants.{Value}
 use Rattle.bcl_event.specs.Map.{Pairs, value_at}
 use Rattle.bcl_map.specs.declared.shape.Shape.{Shape}
-use Rattle.bcl_map.specs.Map.{places, Words, finding, owning, home, next, tag}
+use Rattle.bcl_map.specs.Map.{Words, finding, owning, home, next}
 use Rattle.bcl_map.specs.Notes.{Claim, passed, keyed, alike, settled, certain, lacking, lent, grips, many, met, Note}
 use Rattle.bcl_map.specs.Fits.{AreTyped}
 use Rattle.bcl_map.specs.Steps.{Goes_on, Answers}
@@ -16,15 +15,6 @@ use Rattle.bcl_map.specs.Steps.{Goes_on, Answers}
 -- no other rank changes the value of the key
 abbrev pub MaySee : Shape → ℕ → ℕ → Words → Type 0
 MaySee L p r k = (p ≡ finding) ⊎ ((p ≡ owning) × (home L k ≡ r))
-
--- so many places are passed
-abbrev pub walked : Words → ℕ → List Claim
-walked k zero = []
-walked k (suc d) = passed k (suc d) ∷ []
-
--- at the place with this number so many words of its key were found to be those of this one
-abbrev pub comparing : Words → ℕ → ℕ → List Claim
-comparing k d g = alike k d g ∷ walked k d
 
 -- the place has the key, whose value is this
 abbrev pub reading : Words → ℕ → Words → List Claim
@@ -49,25 +39,6 @@ abbrev pub Typed : (List ℕ → Bool) → (List ℕ → Bool) → (ℕ → Pair
 Typed key value tells n t did y = tells n t did y × AreTyped key value t
 
 module _ (kw vw : ℕ) (op : Words → Words → Words) (L : Shape) where
-  -- the place is passed: the walk goes on, or ends behind the last
-  pub record Passes (k : Words) (d : ℕ) (x : Note) (t : Pairs) (did : List (MapCall Words Words)) (y : Note) : Type 0 where
-    pub on : suc d < places L → Goes_on x (walked k (suc d)) did y
-    pub ends : places L ≤ suc d → Answers kw vw op L (Find k) Absent x [] t did y
-
-  -- a get of a control word
-  pub record FindsControl (k : Words) (d : ℕ) (x : Note) (n : ℕ) (t : Pairs) (did : List (MapCall Words Words)) (y : Note) : Type 0 where
-    pub still : state_by (next op L) t did ≡ t
-    pub free : n ≡ 0 → Answers kw vw op L (Find k) Absent x [] t did y
-    pub same_home : n ≢ 0 → tag n ≡ home L k → Goes_on x (comparing k d 0) did y
-    pub other_home : n ≢ 0 → tag n ≢ home L k → Passes k d x t did y
-
-  -- a get of the word g of a key
-  pub record FindsKey (k : Words) (d g : ℕ) (x : Note) (n : ℕ) (t : Pairs) (did : List (MapCall Words Words)) (y : Note) : Type 0 where
-    pub still : state_by (next op L) t did ≡ t
-    pub more : n ≡ slice_index k g → suc g < kw → Goes_on x (comparing k d (suc g)) did y
-    pub all : n ≡ slice_index k g → suc g ≡ kw → (v : Words) × Goes_on x (reading k d v) did y × IsWords vw v × (value_at k t ≡ Some v)
-    pub other : n ≢ slice_index k g → Passes k d x t did y
-
   -- a get of the word g of a value
   pub record FindsValue (k : Words) (d : ℕ) (v : Words) (g : ℕ) (x : Note) (n : ℕ) (t : Pairs) (did : List (MapCall Words Words)) (y : Note) : Type 0 where
     pub still : state_by (next op L) t did ≡ t

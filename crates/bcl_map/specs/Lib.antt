@@ -4,8 +4,9 @@ pub mod Notes
 pub mod Fits
 pub mod Steps
 pub mod Finds
+pub mod Walking
 pub mod Inserts
-pub mod Storing
+pub mod Walkers
 pub mod OldValue
 pub mod Ranks
 pub mod Parts

@@ -1,5 +1,5 @@
--- How an insertion or a merge goes on from one step to another, and how it ends; said of a pass's view before and after.
-use Rattle.std.specs.Prelude.{◌≡◌, ◌≢◌, ℕ, suc, ◌+◌, ◌<◌, ◌≤◌, ◌⊎◌, [], ◌∷◌, ◌++◌, max, false, Option, Some, None}
+-- How a call goes on from one step to another along a path, and how it ends; said of a pass's view before and after.
+use Rattle.std.specs.Prelude.{◌≡◌, ◌≢◌, ℕ, suc, ◌+◌, ◌*◌, ◌<◌, ◌≤◌, ◌⊎◌, [], ◌∷◌, ◌++◌, max, true, false}
 use Rattle.bcl_event.specs.History.{event, of}
 use Rattle.bcl_event.specs.declared.map.MapCall.{MapCall}
 use Rattle.bcl_event.specs.declared.map.MapReply.{MapReply}
@@ -9,13 +9,17 @@ use Rattle.bcl_segment.specs.declared.layout.Layout.{Layout}
 use Rattle.bcl_map.specs.declared.shape.Shape.{Shape}
 use Rattle.bcl_map.specs.declared.inserted.Inserted.{Inserted}
 use Rattle.bcl_map.specs.declared.inserted.Inserted.TheVariants.{New as was_new, Replaced as was_replaced, Full as was_full}
+use Rattle.bcl_map.specs.declared.walk.Bucket.{Bucket}
 use Rattle.bcl_map.specs.declared.reach.Reach.{Reach}
-use Rattle.bcl_map.specs.declared.reach.Reach.TheVariants.{New as reach_new, Here as reach_here, Full as reach_full}
+use Rattle.bcl_map.specs.declared.reach.Reach.TheVariants.{Free as reach_free, Here as reach_here, Past as reach_past}
+use Rattle.bcl_map.specs.declared.place.Place.{Place}
+use Rattle.bcl_map.specs.declared.place.Place.TheVariants.{New as place_new, Here as place_here, Full as place_full}
 use Rattle.bcl_map.specs.Map.{places, path, Words, home, tag}
+use Rattle.bcl_map.specs.Notes.{Knows}
 use Rattle.bcl_map.specs.Calls.{MapView, Stands, IsBucketAt}
 use Rattle.bcl_map.specs.Costs.{Events, keys, is_new}
 use Rattle.bcl_map.specs.Finds.{reading, value_of}
-use Rattle.bcl_map.specs.Inserts.{heading, matching, facing, strays, least}
+use Rattle.bcl_map.specs.Walking.{Walker, heading, matching, facing, strays, least}
 
 -- what a pass has seen of its own rank is all that this rank did
 abbrev pub KnowsOwn : MapView → Type 0
@@ -57,42 +61,61 @@ module _ (op : Words → Words → Words) (shape : Shape) where
   abbrev pub IsFacing : Words → ℕ → MapView → Type 0
   IsFacing key number view = (view.note.claims ≡ facing shape key number (least view.note.claims)) × (keys op shape view.seen ≤ least view.note.claims)
 
+  -- the place with this number is free: the walk ends, or stands before it
+  pub record IsFree (walker : Walker) (key : Words) (number : ℕ) (old new : MapView) : Type 0 where
+    pub ends : walker.stops ≡ true → Ends walker.call walker.past old new × (new.note.claims ≡ [])
+    pub on : walker.stops ≡ false → Comes old new × IsFacing key number new
+
   -- the place with this number has another key: the walk goes on, or ends behind the last
-  pub record IsPast (call : MapCall Words Words) (key : Words) (number : ℕ) (old new : MapView) : Type 0 where
+  pub record IsPast (walker : Walker) (key : Words) (number : ℕ) (old new : MapView) : Type 0 where
     pub on : suc number < places shape → Comes old new × IsHeading key (suc number) new
-    pub ends : places shape ≤ suc number → Ends call Full old new × (new.note.claims ≡ [])
+    pub ends : places shape ≤ suc number → Ends walker.call walker.past old new × (new.note.claims ≡ [])
 
   -- the place with this number is in use, by a key of this home or of another one, which its control word tells
-  pub record Meets (call : MapCall Words Words) (key : Words) (number control : ℕ) (old new : MapView) : Type 0 where
+  pub record Meets (walker : Walker) (key : Words) (number control : ℕ) (old new : MapView) : Type 0 where
     pub same_home : tag control ≡ home shape key → Comes old new × IsMatching key number 0 new
-    pub other_home : tag control ≢ home shape key → IsPast call key number old new
+    pub other_home : tag control ≢ home shape key → IsPast walker key number old new
 
-  -- where the walk of a call ended
-  abbrev pub Reached : ℕ → Layout → MapCall Words Words → Words → MapView → MapView → Reach → Type 0
-  Reached words layout call key old new reach_new = Ends call New old new × (new.note.claims ≡ [])
-  Reached words layout call key old new (reach_here bucket) = Comes old new × (new.note.claims ≡ reading key bucket.number (value_of new.note.claims)) × IsBucketAt words layout bucket.at (path shape key bucket.number)
-  Reached words layout call key old new reach_full = Ends call Full old new × (new.note.claims ≡ [])
+  -- a bucket of the path of the key
+  pub record IsOnPath (words : ℕ) (layout : Layout) (key : Words) (bucket : Bucket) : Type 0 where
+    pub at : IsBucketAt words layout bucket.at (path shape key bucket.number)
+    pub within : bucket.number < places shape
 
-  -- what became of it at the place with this number: it goes on, or ends
-  abbrev pub ReachedAt : ℕ → Layout → MapCall Words Words → Words → ℕ → MapView → MapView → Option Reach → Type 0
-  ReachedAt words layout call key number old new None = (suc number < places shape) × Comes old new × IsHeading key (suc number) new
-  ReachedAt words layout call key number old new (Some reach) = Reached words layout call key old new reach
+  -- where a walk ended that began at the place with the number `from`: of a place that is known to be in use it isn't free there
+  abbrev pub Reached : ℕ → Layout → Walker → Words → ℕ → MapView → MapView → Reach → Type 0
+  Reached words layout walker key from old new (reach_free bucket) = IsOnPath words layout key bucket × IsFree walker key bucket.number old new × (Knows key (from + 1) old.note.claims → from < bucket.number)
+  Reached words layout walker key from old new (reach_here bucket) = IsOnPath words layout key bucket × Comes old new × (new.note.claims ≡ reading key bucket.number (value_of new.note.claims))
+  Reached words layout walker key from old new reach_past = Ends walker.call walker.past old new × (new.note.claims ≡ [])
 
--- how many words a walk puts
-abbrev pub words_reached_by : ℕ → ℕ → Reach → ℕ
-words_reached_by kw vw reach_new = kw + vw
-words_reached_by kw vw (reach_here bucket) = 0
-words_reached_by kw vw reach_full = 0
+  -- the place of a key in a call that stores a value for it
+  abbrev pub Placed : ℕ → Layout → MapCall Words Words → Words → MapView → MapView → Place → Type 0
+  Placed words layout call key old new place_new = Ends call New old new × (new.note.claims ≡ [])
+  Placed words layout call key old new (place_here bucket) = IsOnPath words layout key bucket × Comes old new × (new.note.claims ≡ reading key bucket.number (value_of new.note.claims))
+  Placed words layout call key old new place_full = Ends call Full old new × (new.note.claims ≡ [])
 
-abbrev pub words_reached : ℕ → ℕ → Option Reach → ℕ
-words_reached kw vw None = 0
-words_reached kw vw (Some reach) = words_reached_by kw vw reach
+-- how many words a walk has got at most, from the begin of the path on, of so many places
+abbrev pub most_gets : ℕ → ℕ → Reach → ℕ
+most_gets kw places (reach_free bucket) = bucket.number * (1 + kw) + 1
+most_gets kw places (reach_here bucket) = places * (1 + kw)
+most_gets kw places reach_past = places * (1 + kw)
 
--- how many exchanges a walk makes at most
-abbrev pub most_reached : ℕ → Reach → ℕ
-most_reached taken reach_new = taken + 1
-most_reached taken (reach_here bucket) = 0
-most_reached taken reach_full = taken
+-- how many places it has looked at, from the begin of the path on
+abbrev pub looked_at : ℕ → Reach → ℕ
+looked_at places (reach_free bucket) = bucket.number + 1
+looked_at places (reach_here bucket) = bucket.number + 1
+looked_at places reach_past = places
+
+-- how many places a call looked at that finds the place of its key; of a new one it isn't said
+abbrev pub places_seen : ℕ → Place → ℕ
+places_seen places place_new = 0
+places_seen places (place_here bucket) = bucket.number + 1
+places_seen places place_full = places
+
+-- how many words it puts
+abbrev pub words_placed : ℕ → ℕ → Place → ℕ
+words_placed kw vw place_new = kw + vw
+words_placed kw vw (place_here bucket) = 0
+words_placed kw vw place_full = 0
 
 -- the reply of an insertion and of a merge
 abbrev pub inserted : Inserted → MapReply Words

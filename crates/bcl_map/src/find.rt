@@ -1,22 +1,72 @@
-//! A find: a look at each bucket of the key's path, until one ends it.
+//! A find: the walk along the path of its key, and where a bucket has the key, gets of the words of its value.
+//!
+//! No other rank changes the value of the key meanwhile, so gets alone find it.
 
 ghost use Rattle.std.specs.Prelude.{◌≡◌, ◌+◌, ◌*◌, ◌≤◌, ◌<◌, [], ◌∷◌};
 ghost use Rattle.bcl_words.specs.Words.{Fits};
 ghost use Rattle.bcl_event.specs.History.{event};
 ghost use Rattle.bcl_event.specs.declared.map.MapCall.TheVariants.{Find as a_find};
+ghost use Rattle.bcl_event.specs.declared.map.MapReply.TheVariants.{Value};
 ghost use Rattle.bcl_phase.specs.Parts as phase;
-ghost use Rattle.bcl_map.specs.Map.{places, size, IsShaped};
-ghost use Rattle.bcl_map.specs.Finds.{MaySee};
-ghost use Rattle.bcl_map.specs.Calls.{Stands, reply};
+ghost use Rattle.bcl_map.specs.Map.{places, path, size, IsShaped};
+ghost use Rattle.bcl_map.specs.Finds.{MaySee, reading, value_of};
+ghost use Rattle.bcl_map.specs.Calls.{Stands, IsBucketAt, reply};
 ghost use Rattle.bcl_map.specs.Parts.{lead_key, pass_view, IsOf};
 
 use crate::lead::MapLead;
-use crate::look::{Look, look_at};
 use crate::map::Map;
 use crate::pass::MapPass;
-use crate::walk::{next_bucket, walk_of};
+use crate::reach::{Reach, reach_from};
+use crate::walk::walk_of;
+use crate::walking::Finding;
 use bcl_phase::{Find, Lead, Pass, Promise};
+use bcl_segment::Spot;
 use bcl_words::{MergeLaw, Object};
+use std::marker::Brand;
+
+/// The value of a bucket that has the key. A get of each of its words: the find takes place at the last.
+#[inline]
+fn value<K: Object, V: Object, L: MergeLaw<V>, P: Promise>(
+    pass: &mut Pass<Map<K, V, L>, P>,
+    lead: &Lead<Map<K, V, L>>,
+    at: u32,
+    key: &[u64; 8],
+    number: u32,
+) -> V
+    requires key { Fits K.WORDS }
+    requires value { Fits V.WORDS }
+    requires of { phase.IsOf pass.old lead.now }
+    requires shape { IsShaped K.WORDS V.WORDS (phase.lead_heads lead.now) (phase.lead_layout lead.now) (phase.lead_key lead.now) }
+    requires at { IsBucketAt (size K.WORDS V.WORDS) (phase.lead_layout lead.now) at (path (phase.lead_key lead.now) key.now number) }
+    requires see { MaySee (phase.lead_key lead.now) P.CODE (phase.pass_view pass.old).rank key.now }
+    requires reads { (phase.pass_view pass.old).note.claims ≡ reading key.now number (value_of (phase.pass_view pass.old).note.claims) }
+    ensures stands { Stands L.op (phase.lead_key lead.now) (phase.pass_view pass.old) (phase.pass_view pass.new) (event (phase.pass_view pass.old).rank (a_find key.now) (Value (V.words result)) ∷ []) }
+    ensures rest { (phase.pass_view pass.new).note.claims ≡ [] }
+    ensures of { phase.IsOf pass.new lead.now }
+    ensures gets { (phase.pass_view pass.new).gets ≡ (phase.pass_view pass.old).gets + V.WORDS }
+    ensures puts { (phase.pass_view pass.new).puts ≡ (phase.pass_view pass.old).puts }
+    ensures atomics { (phase.pass_view pass.new).atomics ≡ (phase.pass_view pass.old).atomics }
+{
+    let mut words = [0u64; 8];
+    let first = 1 + K::WORDS;
+    let last = V::WORDS - 1;
+    for j in 0..last {
+        words[j] = pass.get::<Brand, ([u64; 8], u32, usize)>(
+            lead,
+            Spot::word_of(at, first + j),
+            &(*key, number, j),
+        );
+    }
+    words[last] = pass.get::<Brand, ([u64; 8], u32, usize)>(
+        lead,
+        Spot::word_of(at, first + last),
+        &(*key, number, last),
+    );
+    let Some(value) = V::from_words(&words) else {
+        unreachable!()
+    };
+    value
+}
 
 /// The value of a key, which no other rank changes. Gets alone; the find takes place at the last.
 #[inline]
@@ -40,16 +90,11 @@ pub(crate) fn find_key<K: Object, V: Object, L: MergeLaw<V>, P: Promise>(
 {
     let words = key.to_words();
     let walk = walk_of(pass, lead, &words);
-    let mut at = walk.at;
-    for number in 0..walk.places {
-        let last = number + 1 == walk.places;
-        match look_at(pass, lead, at, &words, number, walk.home, last) {
-            Look::Found(value) => return Some(value),
-            Look::Absent => return None,
-            Look::Passed => at = next_bucket::<K, V>(at, walk.end),
-        }
+    match reach_from(pass, lead, &Finding, &words, walk, walk.first) {
+        Reach::Here(bucket) => Some(value(pass, lead, bucket.at, &words, bucket.number)),
+        Reach::Free(_) => None,
+        Reach::Past => None,
     }
-    unreachable!()
 }
 
 impl<K: Object, V: Object, L: MergeLaw<V>> MapPass<Find, K, V, L> {

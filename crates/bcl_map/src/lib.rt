@@ -15,9 +15,10 @@
 //! - `home`, `lead`, `pass`: who has a map alone, who has begun a phase, and one rank's part. `specs/Parts.antt` says what
 //!   a contract sees of them.
 //! - `control`, `walk`: control words, and the way from bucket to bucket.
-//! - `find`: a find, and `look`, its look at one bucket.
-//! - `own`: the calls under `Own`, and `merge`, a merge; both it and an insertion store a value (`storing`) by one walk
-//!   (`reach`) and the same puts (`put`), and are answered what `inserted` has.
+//! - `walking`, `look`, `reach`: the calls that walk along a key's path, their look at one bucket, and their walk.
+//! - `find`: a find.
+//! - `own`: the calls under `Own`. An insertion and a merge (`merge`) store a value (`storing`) in the place that they find
+//!   or take (`place`) by the same puts (`put`), and are answered what `inserted` has.
 //! - `close`: a map that is closed. `count` and `pairs` list what it has, by `specs/Closed.antt`.
 //!
 //! `tutorial` is a whole program on it, which docs/TUTORIAL.md goes through.
@@ -37,6 +38,7 @@ mod note;
 mod own;
 mod pairs;
 mod pass;
+mod place;
 mod put;
 mod reach;
 mod shape;
@@ -46,6 +48,7 @@ mod tests;
 #[cfg(test)]
 mod tutorial;
 mod walk;
+mod walking;
 
 pub use close::ClosedMap;
 pub use home::MapHome;

@@ -1,79 +1,60 @@
-//! A look at one bucket of a key's path.
-//!
-//! No other rank changes the value of the key meanwhile, so gets alone find it.
+//! A look at one bucket of a key's path: gets alone, whatever the call is.
 
-ghost use Rattle.std.specs.Prelude.{◌≡◌, ◌+◌, ◌↔◌, ◌≤◌, [], ◌∷◌, true, false};
+ghost use Rattle.std.specs.Prelude.{◌≡◌, ◌≢◌, ◌+◌, ◌≤◌, true, false};
 ghost use Rattle.bcl_words.specs.Words.{Fits, IsWords};
-ghost use Rattle.bcl_event.specs.History.{event};
-ghost use Rattle.bcl_event.specs.declared.map.MapCall.TheVariants.{Find};
-ghost use Rattle.bcl_event.specs.declared.map.MapReply.TheVariants.{Value, Absent};
 ghost use Rattle.bcl_phase.specs.Parts.{lead_key, lead_layout, lead_heads, pass_view, IsOf};
-ghost use Rattle.bcl_phase.specs.Stands.{Still};
+ghost use Rattle.bcl_map.specs.declared.look.Look.TheVariants.{Free};
 ghost use Rattle.bcl_map.specs.Map as map;
-ghost use Rattle.bcl_map.specs.Map.{places, path, size, IsShaped};
-ghost use Rattle.bcl_map.specs.Finds.{MaySee, walked, comparing, reading, value_of};
-ghost use Rattle.bcl_map.specs.Calls.{Stands, IsBucketAt, IsPassed};
-ghost use Rattle.bcl_map.specs.declared.look.Look.TheVariants.{Absent as not_there};
-ghost use Rattle.bcl_map.specs.Looks.{Looks, most_gets};
+ghost use Rattle.bcl_map.specs.Map.{path, size, IsShaped};
+ghost use Rattle.bcl_map.specs.Notes.{Knows};
+ghost use Rattle.bcl_map.specs.Finds.{reading, value_of};
+ghost use Rattle.bcl_map.specs.Calls.{IsBucketAt};
+ghost use Rattle.bcl_map.specs.Reaches.{KnowsOwn, HasPassed, IsMatching, IsFree, IsPast, Comes, Meets};
+ghost use Rattle.bcl_map.specs.Looks.{Looks};
 
 use crate::control::names_home;
 use crate::map::Map;
+use crate::walking::Walking;
 use bcl_phase::{Lead, Pass, Promise};
 use bcl_segment::Spot;
 use bcl_words::{MergeLaw, Object};
 use std::marker::Brand;
 
-/// The value of a bucket that has the key. A get of each of its words: the find takes place at the last.
+/// The control word of the bucket with this number on the path of a key, of which the walk may know that it is in use.
 #[inline]
-fn value<K: Object, V: Object, L: MergeLaw<V>, P: Promise>(
+fn see<K: Object, V: Object, L: MergeLaw<V>, P: Promise, C: Walking>(
     pass: &mut Pass<Map<K, V, L>, P>,
     lead: &Lead<Map<K, V, L>>,
     at: u32,
+    call: &C,
     key: &[u64; 8],
     number: u32,
-) -> V
+) -> u64
     requires key { Fits K.WORDS }
-    requires value { Fits V.WORDS }
     requires of { IsOf pass.old lead.now }
     requires shape { IsShaped K.WORDS V.WORDS (lead_heads lead.now) (lead_layout lead.now) (lead_key lead.now) }
     requires at { IsBucketAt (size K.WORDS V.WORDS) (lead_layout lead.now) at (path (lead_key lead.now) key.now number) }
-    requires see { MaySee (lead_key lead.now) P.CODE (pass_view pass.old).rank key.now }
-    requires reads { (pass_view pass.old).note.claims ≡ reading key.now number (value_of (pass_view pass.old).note.claims) }
-    ensures stands { Stands L.op (lead_key lead.now) (pass_view pass.old) (pass_view pass.new) (event (pass_view pass.old).rank (Find key.now) (Value (V.words result)) ∷ []) }
-    ensures rest { (pass_view pass.new).note.claims ≡ [] }
+    requires may { C.may (lead_key lead.now) P.CODE (pass_view pass.old).rank key.now }
+    requires heading { HasPassed key.now number (pass_view pass.old) }
+    ensures some { Knows key.now (number + 1) (pass_view pass.old).note.claims → result ≢ 0 }
+    ensures free { result ≡ 0 → IsFree L.op (lead_key lead.now) (C.walker call.now key.now) key.now number (pass_view pass.old) (pass_view pass.new) }
+    ensures used { result ≢ 0 → Meets L.op (lead_key lead.now) (C.walker call.now key.now) key.now number result (pass_view pass.old) (pass_view pass.new) }
     ensures of { IsOf pass.new lead.now }
-    ensures gets { (pass_view pass.new).gets ≡ (pass_view pass.old).gets + V.WORDS }
+    ensures gets { (pass_view pass.new).gets ≡ (pass_view pass.old).gets + 1 }
     ensures puts { (pass_view pass.new).puts ≡ (pass_view pass.old).puts }
     ensures atomics { (pass_view pass.new).atomics ≡ (pass_view pass.old).atomics }
 {
-    let mut words = [0u64; 8];
-    let first = 1 + K::WORDS;
-    let last = V::WORDS - 1;
-    for j in 0..last {
-        words[j] = pass.get::<Brand, ([u64; 8], u32, usize)>(
-            lead,
-            Spot::word_of(at, first + j),
-            &(*key, number, j),
-        );
-    }
-    words[last] = pass.get::<Brand, ([u64; 8], u32, usize)>(
-        lead,
-        Spot::word_of(at, first + last),
-        &(*key, number, last),
-    );
-    let Some(value) = V::from_words(&words) else {
-        unreachable!()
-    };
-    value
+    pass.get::<Brand, (C, [u64; 8], u32)>(lead, Spot::word_of(at, 0), &(*call, *key, number))
 }
 
 /// Whether the key of a bucket, whose home is that of this key, is this one: a get of each of its words, up to the first
 /// that differs. There the bucket is passed.
 #[inline]
-fn same_key<K: Object, V: Object, L: MergeLaw<V>, P: Promise>(
+fn has_key<K: Object, V: Object, L: MergeLaw<V>, P: Promise, C: Walking>(
     pass: &mut Pass<Map<K, V, L>, P>,
     lead: &Lead<Map<K, V, L>>,
     at: u32,
+    call: &C,
     key: &[u64; 8],
     number: u32,
 ) -> bool
@@ -82,20 +63,22 @@ fn same_key<K: Object, V: Object, L: MergeLaw<V>, P: Promise>(
     requires of { IsOf pass.old lead.now }
     requires shape { IsShaped K.WORDS V.WORDS (lead_heads lead.now) (lead_layout lead.now) (lead_key lead.now) }
     requires at { IsBucketAt (size K.WORDS V.WORDS) (lead_layout lead.now) at (path (lead_key lead.now) key.now number) }
-    requires see { MaySee (lead_key lead.now) P.CODE (pass_view pass.old).rank key.now }
-    requires compares { (pass_view pass.old).note.claims ≡ comparing key.now number 0 }
-    ensures same { result ≡ true → Still (pass_view pass.old) (pass_view pass.new) × ((pass_view pass.new).note.claims ≡ reading key.now number (value_of (pass_view pass.new).note.claims)) }
-    ensures other { result ≡ false → IsPassed L.op (lead_key lead.now) key.now number (pass_view pass.old) (pass_view pass.new) }
+    requires may { C.may (lead_key lead.now) P.CODE (pass_view pass.old).rank key.now }
+    requires matching { IsMatching key.now number 0 (pass_view pass.old) }
+    requires own { KnowsOwn (pass_view pass.old) }
+    ensures same { result ≡ true → Comes L.op (lead_key lead.now) (pass_view pass.old) (pass_view pass.new) × ((pass_view pass.new).note.claims ≡ reading key.now number (value_of (pass_view pass.new).note.claims)) }
+    ensures other { result ≡ false → IsPast L.op (lead_key lead.now) (C.walker call.now key.now) key.now number (pass_view pass.old) (pass_view pass.new) }
     ensures of { IsOf pass.new lead.now }
     ensures gets { (pass_view pass.new).gets ≤ (pass_view pass.old).gets + K.WORDS }
+    ensures rise { (pass_view pass.old).gets ≤ (pass_view pass.new).gets }
     ensures puts { (pass_view pass.new).puts ≡ (pass_view pass.old).puts }
     ensures atomics { (pass_view pass.new).atomics ≡ (pass_view pass.old).atomics }
 {
     for j in 0..K::WORDS {
-        let found = pass.get::<Brand, ([u64; 8], u32, usize)>(
+        let found = pass.get::<Brand, (C, [u64; 8], u32, usize)>(
             lead,
             Spot::word_of(at, 1 + j),
-            &(*key, number, j),
+            &(*call, *key, number, j),
         );
         if found != key[j] {
             return false;
@@ -105,50 +88,51 @@ fn same_key<K: Object, V: Object, L: MergeLaw<V>, P: Promise>(
 }
 
 /// What a look at a bucket finds.
-pub(crate) enum Look<V> {
-    /// The key is not there; it may be further along its path.
+pub(crate) enum Look {
+    /// It is free.
+    Free,
+    /// It has the key.
+    Here,
+    /// It has another key.
     Passed,
-    /// The key has no value.
-    Absent,
-    Found(V),
 }
 
-/// Looks at the bucket with this number on the path of a key, whose home is the rank `home`; `last` where no more follow.
+/// Looks at the bucket with this number on the path of a key, whose home is the rank `home`.
 ///
-/// Where it is free the key is absent, and no get follows that of its control word.
+/// Where it is free, no get follows that of its control word.
 #[inline]
-pub(crate) fn look_at<K: Object, V: Object, L: MergeLaw<V>, P: Promise>(
+pub(crate) fn look_at<K: Object, V: Object, L: MergeLaw<V>, P: Promise, C: Walking>(
     pass: &mut Pass<Map<K, V, L>, P>,
     lead: &Lead<Map<K, V, L>>,
     at: u32,
+    call: &C,
     key: &[u64; 8],
     number: u32,
     home: u32,
-    last: bool,
-) -> Look<V>
+) -> Look
     requires key { Fits K.WORDS }
-    requires value { Fits V.WORDS }
     requires words { IsWords K.WORDS key.now }
     requires of { IsOf pass.old lead.now }
     requires shape { IsShaped K.WORDS V.WORDS (lead_heads lead.now) (lead_layout lead.now) (lead_key lead.now) }
     requires at { IsBucketAt (size K.WORDS V.WORDS) (lead_layout lead.now) at (path (lead_key lead.now) key.now number) }
-    requires see { MaySee (lead_key lead.now) P.CODE (pass_view pass.old).rank key.now }
-    requires walked { (pass_view pass.old).note.claims ≡ walked key.now number }
+    requires may { C.may (lead_key lead.now) P.CODE (pass_view pass.old).rank key.now }
+    requires heading { HasPassed key.now number (pass_view pass.old) }
     requires home { home ≡ map.home (lead_key lead.now) key.now }
-    requires last { (last ≡ true) ↔ (places (lead_key lead.now) ≤ number + 1) }
-    ensures looks { Looks L.op V.words (lead_key lead.now) key.now number (pass_view pass.old) (pass_view pass.new) result }
+    ensures looks { Looks L.op (lead_key lead.now) (C.walker call.now key.now) key.now number (pass_view pass.old) (pass_view pass.new) result }
+    ensures some { Knows key.now (number + 1) (pass_view pass.old).note.claims → result ≢ Free }
     ensures of { IsOf pass.new lead.now }
-    ensures gets { (pass_view pass.new).gets ≤ (pass_view pass.old).gets + most_gets K.WORDS V.WORDS result }
-    ensures free { result ≡ not_there → last ≡ false → (pass_view pass.new).gets ≡ (pass_view pass.old).gets + 1 }
+    ensures gets { (pass_view pass.new).gets ≤ (pass_view pass.old).gets + (1 + K.WORDS) }
+    ensures free { result ≡ Free → (pass_view pass.new).gets ≡ (pass_view pass.old).gets + 1 }
+    ensures rise { (pass_view pass.old).gets + 1 ≤ (pass_view pass.new).gets }
     ensures puts { (pass_view pass.new).puts ≡ (pass_view pass.old).puts }
     ensures atomics { (pass_view pass.new).atomics ≡ (pass_view pass.old).atomics }
 {
-    let control = pass.get::<Brand, ([u64; 8], u32)>(lead, Spot::word_of(at, 0), &(*key, number));
+    let control = see(pass, lead, at, call, key, number);
     if control == 0 {
-        return Look::Absent;
+        return Look::Free;
     }
-    if names_home(control, home) && same_key(pass, lead, at, key, number) {
-        return Look::Found(value(pass, lead, at, key, number));
+    if names_home(control, home) && has_key(pass, lead, at, call, key, number) {
+        return Look::Here;
     }
-    if last { Look::Absent } else { Look::Passed }
+    Look::Passed
 }

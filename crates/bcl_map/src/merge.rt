@@ -16,8 +16,8 @@ ghost use Rattle.bcl_map.specs.Reaches.{inserted, words_put_by, most_atomics};
 
 use crate::inserted::Inserted;
 use crate::map::Map;
+use crate::place::{Place, place_of};
 use crate::put::replace;
-use crate::reach::{Bucket, Reach, reach_key};
 use crate::storing::Merging;
 use bcl_merge::Merger;
 use bcl_phase::{Lead, Own, Pass};
@@ -88,22 +88,15 @@ pub(crate) fn merge_key<K: Object, V: Object, L: MergeLaw<V>, F: Fn(V, V) -> V +
 {
     let words = key.to_words();
     let value_words = value.to_words();
-    match reach_key::<K, V, L, Merging>(pass, lead, &words, &value_words) {
-        Reach::New => Inserted::New,
-        Reach::Here(bucket) => {
+    let call = Merging { value: value_words };
+    match place_of(pass, lead, &call, &words) {
+        Place::New => Inserted::New,
+        Place::Here(bucket) => {
             let old = old_value(pass, lead, bucket.at, &words, bucket.number);
             let merged = merger.apply(old, *value).to_words();
-            replace::<K, V, L, Merging>(
-                pass,
-                lead,
-                bucket.at,
-                &words,
-                &value_words,
-                &merged,
-                bucket.number,
-            );
+            replace(pass, lead, bucket.at, &call, &words, &merged, bucket.number);
             Inserted::Replaced
         }
-        Reach::Full => Inserted::Full,
+        Place::Full => Inserted::Full,
     }
 }

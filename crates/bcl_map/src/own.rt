@@ -18,8 +18,8 @@ use crate::lead::MapLead;
 use crate::map::Map;
 use crate::merge::merge_key;
 use crate::pass::MapPass;
+use crate::place::{Place, place_of};
 use crate::put::replace;
-use crate::reach::{Bucket, Reach, reach_key};
 use crate::storing::Inserting;
 use bcl_merge::Merger;
 use bcl_phase::{Lead, Own, Pass};
@@ -49,21 +49,22 @@ fn insert_key<K: Object, V: Object, L: MergeLaw<V>>(
 {
     let words = key.to_words();
     let value_words = value.to_words();
-    match reach_key::<K, V, L, Inserting>(pass, lead, &words, &value_words) {
-        Reach::New => Inserted::New,
-        Reach::Here(bucket) => {
-            replace::<K, V, L, Inserting>(
+    let call = Inserting { value: value_words };
+    match place_of(pass, lead, &call, &words) {
+        Place::New => Inserted::New,
+        Place::Here(bucket) => {
+            replace(
                 pass,
                 lead,
                 bucket.at,
+                &call,
                 &words,
-                &value_words,
                 &value_words,
                 bucket.number,
             );
             Inserted::Replaced
         }
-        Reach::Full => Inserted::Full,
+        Place::Full => Inserted::Full,
     }
 }
 

@@ -99,8 +99,8 @@ pub(crate) fn replace<K: Object, V: Object, L: MergeLaw<V>, C: Storing>(
     pass: &mut Pass<Map<K, V, L>, Own>,
     lead: &Lead<Map<K, V, L>>,
     at: u32,
+    call: &C,
     key: &[u64; 8],
-    value: &[u64; 8],
     put: &[u64; 8],
     number: u32,
 )
@@ -108,24 +108,24 @@ pub(crate) fn replace<K: Object, V: Object, L: MergeLaw<V>, C: Storing>(
     requires value { Fits V.WORDS }
     requires words { IsWords K.WORDS key.now × (K.passes key.now ≡ true) }
     requires put_words { IsWords V.WORDS put.now × (V.passes put.now ≡ true) }
-    requires stores { (t : Pairs) → value_at key.now t ≡ Some (value_of (pass_view pass.old).note.claims) → next L.op (lead_key lead.now) t (C.call key.now value.now) ≡ (Replaced, with_value key.now put.now t) }
+    requires stores { (t : Pairs) → value_at key.now t ≡ Some (value_of (pass_view pass.old).note.claims) → next L.op (lead_key lead.now) t (C.walker call.now key.now).call ≡ (Replaced, with_value key.now put.now t) }
     requires of { IsOf pass.old lead.now }
     requires shape { IsShaped K.WORDS V.WORDS (lead_heads lead.now) (lead_layout lead.now) (lead_key lead.now) }
     requires at { IsBucketAt (size K.WORDS V.WORDS) (lead_layout lead.now) at (path (lead_key lead.now) key.now number) }
     requires mine { map.home (lead_key lead.now) key.now ≡ (pass_view pass.old).rank }
     requires reads { (pass_view pass.old).note.claims ≡ reading key.now number (value_of (pass_view pass.old).note.claims) }
-    ensures ends { Ends L.op (lead_key lead.now) (C.call key.now value.now) Replaced (pass_view pass.old) (pass_view pass.new) }
+    ensures ends { Ends L.op (lead_key lead.now) (C.walker call.now key.now).call Replaced (pass_view pass.old) (pass_view pass.new) }
     ensures rest { (pass_view pass.new).note.claims ≡ [] }
     ensures of { IsOf pass.new lead.now }
     ensures gets { (pass_view pass.new).gets ≡ (pass_view pass.old).gets }
     ensures puts { (pass_view pass.new).puts ≡ (pass_view pass.old).puts + V.WORDS }
     ensures atomics { (pass_view pass.new).atomics ≡ (pass_view pass.old).atomics }
 {
-    pass.put::<Brand, ([u64; 8], [u64; 8], [u64; 8], u32)>(
+    pass.put::<Brand, (C, [u64; 8], [u64; 8], u32)>(
         lead,
         Spot::word_of(at, 1 + K::WORDS),
         put[0],
-        &(*key, *value, *put, number),
+        &(*call, *key, *put, number),
     );
     if V::WORDS > 1 {
         put_value(pass, lead, at, key, put, number, 1);

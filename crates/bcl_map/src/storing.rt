@@ -1,43 +1,89 @@
 //! The two calls that store a value for a key: an insertion and a merge.
 //!
-//! They make the same steps up to a bucket that has the key, so their steps are functions of the call alone.
+//! They make the same steps up to a bucket that has the key, so these steps are functions of the call.
 
 ghost use Rattle.std.specs.Prelude.{◌≡◌, ℕ};
-ghost use Rattle.bcl_event.specs.declared.map.MapCall.{MapCall};
-ghost use Rattle.bcl_event.specs.declared.map.MapCall.TheVariants.{Insert, Merge};
 ghost use Rattle.bcl_map.specs.declared.shape.Shape.{Shape};
-ghost use Rattle.bcl_map.specs.Map.{Words, permits, owning, home};
-ghost use Rattle.bcl_map.specs.Inserts.{Stores};
-ghost use Rattle.bcl_map.specs.Storing.{insert_stores, merge_stores};
+ghost use Rattle.bcl_map.specs.Map.{Words, owning, home};
+ghost use Rattle.bcl_map.specs.Inserts.{IsStoring};
+ghost use Rattle.bcl_map.specs.Walkers.{MayStore, insert_walker, insert_stores, insert_permitted, insert_answered, merge_walker, merge_stores, merge_permitted, merge_answered, store_sees, store_may};
+
+use crate::walking::Walking;
 
 /// A call that stores a value for a key.
-pub(crate) trait Storing {
-    // the call, of the words of a key and of a value
-    ghost call: { Words → Words → MapCall Words Words };
+pub(crate) trait Storing: Walking {
+    // the words of its value
+    ghost value: { Self → Words };
 
-    // it is one of the two
-    ghost stores: { (k v : Words) → Stores k v (call k v) };
+    /// The words of its value.
+    fn value(&self) -> &[u64; 8]
+        ensures { result.now ≡ value self.now };
 
-    // and is permitted to the rank of the key's home
-    ghost may: { (L : Shape) (r : ℕ) (k v : Words) → home L k ≡ r → permits L owning r (call k v) };
+    // it stores this value
+    ghost stores: { (s : Self) (k : Words) → IsStoring k (value s) (Self.walker s k) };
+
+    // and the rank of the key's home may make it under Own
+    ghost owns: { (L : Shape) (r : ℕ) (k : Words) → home L k ≡ r → Self.may L owning r k };
 }
 
-pub(crate) struct Inserting;
+/// An insertion of a value of these words.
+#[derive(Clone, Copy)]
+pub(crate) struct Inserting {
+    pub value: [u64; 8],
+}
 
-pub(crate) struct Merging;
+/// A merge of a value of these words.
+#[derive(Clone, Copy)]
+pub(crate) struct Merging {
+    pub value: [u64; 8],
+}
+
+impl Walking for Inserting {
+    ghost walker = { λ s k. insert_walker k s.value };
+
+    ghost may = { MayStore };
+
+    ghost sees = { store_sees };
+
+    ghost permitted = { λ s. insert_permitted s.value };
+
+    ghost answered = { λ s k. insert_answered k s.value };
+}
 
 impl Storing for Inserting {
-    ghost call = { λ k v. Insert k v };
+    ghost value = { λ s. s.value };
 
-    ghost stores = { insert_stores };
+    #[inline(always)]
+    fn value(&self) -> &[u64; 8] {
+        &self.value
+    }
 
-    ghost may = { λ L r k v own. own };
+    ghost stores = { λ s k. insert_stores k s.value };
+
+    ghost owns = { store_may };
+}
+
+impl Walking for Merging {
+    ghost walker = { λ s k. merge_walker k s.value };
+
+    ghost may = { MayStore };
+
+    ghost sees = { store_sees };
+
+    ghost permitted = { λ s. merge_permitted s.value };
+
+    ghost answered = { λ s k. merge_answered k s.value };
 }
 
 impl Storing for Merging {
-    ghost call = { λ k v. Merge k v };
+    ghost value = { λ s. s.value };
 
-    ghost stores = { merge_stores };
+    #[inline(always)]
+    fn value(&self) -> &[u64; 8] {
+        &self.value
+    }
 
-    ghost may = { λ L r k v own. own };
+    ghost stores = { λ s k. merge_stores k s.value };
+
+    ghost owns = { store_may };
 }

@@ -45,6 +45,13 @@ pub(crate) fn bucket_at<K: Object, V: Object>(place: u32) -> u32
     place * bucket_words::<K, V>()
 }
 
+/// A bucket on the path of a key: the number of its first word, and its own number on the path.
+#[derive(Clone, Copy)]
+pub(crate) struct Bucket {
+    pub at: u32,
+    pub number: u32,
+}
+
 /// A walk along the path of a key.
 #[derive(Clone, Copy)]
 pub(crate) struct Walk {
@@ -55,7 +62,7 @@ pub(crate) struct Walk {
     /// The rank in whose segment the path begins.
     pub home: u32,
     /// The bucket where it begins.
-    pub at: u32,
+    pub first: Bucket,
 }
 
 /// The walk of a key with these words.
@@ -71,7 +78,8 @@ pub(crate) fn walk_of<K: Object, V: Object, L: MergeLaw<V>, P: Promise>(
     ensures places { result.places ≡ places (lead_key lead.now) }
     ensures end { result.end ≡ segment.places (lead_layout lead.now) }
     ensures home { result.home ≡ map.home (lead_key lead.now) key.now }
-    ensures at { IsBucketAt (size K.WORDS V.WORDS) (lead_layout lead.now) result.at (path (lead_key lead.now) key.now 0) }
+    ensures first { result.first.number ≡ 0 }
+    ensures at { IsBucketAt (size K.WORDS V.WORDS) (lead_layout lead.now) result.first.at (path (lead_key lead.now) key.now 0) }
 {
     let layout = pass.layout();
     let buckets = in_buckets::<K, V>(layout);
@@ -81,7 +89,10 @@ pub(crate) fn walk_of<K: Object, V: Object, L: MergeLaw<V>, P: Promise>(
         places,
         end: layout.ranks * layout.per_rank,
         home: first / buckets.per_rank,
-        at: bucket_at::<K, V>(first),
+        first: Bucket {
+            at: bucket_at::<K, V>(first),
+            number: 0,
+        },
     }
 }
 

@@ -3,7 +3,7 @@ use Rattle.bcl_phase.specs.Parts.{lead_key, pass_view, IsOf}
 use Rattle.bcl_phase.specs.Stands.{Still}
 use Rattle.bcl_phase.specs.Flights.{Lies}
 use Rattle.bcl_map.specs.Finds.{reading, value_of, Typed, FindsValue}
-use Rattle.bcl_map.proofs.look.value.Given as goal
+use Rattle.bcl_map.proofs.find.value.Given as goal
 
 abbrev pub ghosts-get : goal.ghosts-get
 ghosts-get g a = record { then = Typed g.K.Object.passes g.V.Object.passes (FindsValue g.K.Object.WORDS g.V.Object.WORDS g.L.MergeLaw.op (lead_key a.lead.now) a.about.now.0 a.about.now.1 (value_of (pass_view a.self.now).note.claims) a.about.now.2 (pass_view a.self.now).note) }

@@ -12,7 +12,7 @@ use Rattle.bcl_map.specs.Finds.{MaySee, value_of}
 use Rattle.bcl_map.specs.Calls.{Stands}
 use Rattle.bcl_phase.proofs.Flights.{whole_object}
 use Rattle.bcl_map.proofs.Looks.{lawful, small, word_is, value_step}
-use Rattle.bcl_map.proofs.look.value.Goals as goal
+use Rattle.bcl_map.proofs.find.value.Goals as goal
 
 pub get-requires-clause-step : goal.get-requires-clause-step
 get-requires-clause-step g c = let I = c.loop-j.invariant in let lead = c.args.lead.now in let v = pass_view c.loop-j.pass in let k = c.args.key.now in let d = c.args.number in

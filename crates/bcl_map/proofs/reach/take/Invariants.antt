@@ -1,6 +1,0 @@
-use Rattle.bcl_phase.specs.Parts.{lead_key, pass_view}
-use Rattle.bcl_map.specs.Inserts.{Takes}
-use Rattle.bcl_map.proofs.reach.take.Given as goal
-
-abbrev pub ghosts-cas : goal.ghosts-cas
-ghosts-cas g a = record { then = Takes g.K.Object.WORDS g.V.Object.WORDS g.L.MergeLaw.op (lead_key a.lead.now) (g.C.Storing.call a.about.now.0 a.about.now.1) a.about.now.0 a.about.now.1 a.about.now.2 (pass_view a.self.now).note }
