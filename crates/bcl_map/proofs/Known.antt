@@ -5,7 +5,7 @@ use Rattle.bcl_event.specs.Map.{Pairs}
 use Rattle.bcl_map.specs.Map.{Words}
 use Rattle.bcl_map.specs.Cells.{Cell}
 use Rattle.bcl_map.specs.Notes.{Claim, passed, Has, Knows, Says, AllSay}
-use Rattle.bcl_map.specs.Walking.{walked, heading}
+use Rattle.bcl_map.specs.Walking.{walked, heading, least}
 
 -- a walk knows the places that it has passed
 pub walked_knows : (k : Words) (d : ℕ) → Knows k d (walked k d)
@@ -15,6 +15,10 @@ walked_knows k (suc d) = inr (suc d, omega arith, inl refl)
 pub heading_knows : (strayed : Bool) (k : Words) (d b : ℕ) → Knows k d (heading strayed k d b)
 heading_knows false k d b = walked_knows k d
 heading_knows true k d b = inr (d, omega arith, inl refl)
+
+pub walked_least : (k : Words) (d : ℕ) → least (walked k d) ≡ 0
+walked_least k zero = refl
+walked_least k (suc d) = refl
 
 module _ (L : Shape) (p : ℕ) (t : Pairs) (cells : List Cell) (r : ℕ) where
   -- a claim of the note holds

@@ -29,13 +29,10 @@ use Rattle.bcl_map.specs.Inserts.{writing, Takes, PutsWord, Replaces}
 use Rattle.bcl_map.specs.Calls.{MapView, Stands}
 use Rattle.bcl_map.specs.Costs.{Events, is_new, others_new, taken, keys}
 use Rattle.bcl_map.specs.Reaches.{KnowsOwn, IsHeading, IsMatching, level, Comes, Ends, IsFacing, IsFree, IsPast, Meets}
+use Rattle.bcl_map.proofs.Known.{walked_least}
 use Rattle.bcl_map.proofs.Taken.{others_more, keys_rise, keys_past}
 
 -- ---- what the claims of a walk say
-
-least_walked : (k : Words) (d : ℕ) → least (walked k d) ≡ 0
-least_walked k zero = refl
-least_walked k (suc d) = refl
 
 strays_heading : (s : Bool) (k : Words) (d b : ℕ) → strays (heading s k d b) ≡ s
 strays_heading true k d b = refl
@@ -55,10 +52,10 @@ is_matching claims s k d g b e = subst (λ (z : List Claim). z ≡ matching (str
 
 -- with no free place met they say of no number of keys
 heading_none : (claims : List Claim) (k : Words) (d : ℕ) → claims ≡ heading (strays claims) k d (least claims) → strays claims ≡ false → least claims ≡ 0
-heading_none claims k d at fresh = ap least (at ∙ ap (λ (z : Bool). heading z k d (least claims)) fresh) ∙ least_walked k d
+heading_none claims k d at fresh = ap least (at ∙ ap (λ (z : Bool). heading z k d (least claims)) fresh) ∙ walked_least k d
 
 matching_none : (claims : List Claim) (k : Words) (d g : ℕ) → claims ≡ matching (strays claims) k d g (least claims) → strays claims ≡ false → least claims ≡ 0
-matching_none claims k d g at fresh = ap least (at ∙ ap (λ (z : Bool). matching z k d g (least claims)) fresh) ∙ least_walked k d
+matching_none claims k d g at fresh = ap least (at ∙ ap (λ (z : Bool). matching z k d g (least claims)) fresh) ∙ walked_least k d
 
 not_strayed : {P : Type 0} (b : Bool) → b ≡ true → b ≡ false → P
 not_strayed b is not = absurd (true≢false (sym is ∙ not))

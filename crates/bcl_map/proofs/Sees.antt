@@ -3,7 +3,7 @@ use Rattle.std.proofs.Common.{◌≡◌, ◌≢◌, ℕ, zero, suc, ◌+◌, ◌
 use Rattle.std.specs.Prelude.{Bool, true, false}
 use Rattle.std.specs.List.{All}
 use Rattle.std.proofs.lemmas.List.Elements.{All-nil, All-cons}
-use Rattle.std.proofs.lemmas.Bool.{cases_lt}
+use Rattle.std.proofs.lemmas.Bool.{cases_lt, cases_Bool}
 use Rattle.std.proofs.Math.Nat.{mod-eq_of_lt, add-mod, mod_self}
 use native.Mathlib.Decide.{ℕ_discrete}
 use mathlib.Core.Logic.{dite}
@@ -22,10 +22,10 @@ use Rattle.bcl_map.specs.Notes.{Claim, passed, Knows, Note, readers, Says, AllSa
 use Rattle.bcl_map.specs.Fits.{HasValue, PlaceOk, Fits, AreTyped, Holds}
 use Rattle.bcl_map.specs.Steps.{with_claims, Step, Answers, control_at}
 use Rattle.bcl_map.specs.Finds.{MaySee, reading}
-use Rattle.bcl_map.specs.Walking.{Walker, IsAnswered, walked, heading, matching, facing, least, GoesPast, Meets, SeesControl, SeesKey}
+use Rattle.bcl_map.specs.Walking.{Walker, IsAnswered, heading, matching, facing, least, GoesPast, Meets, SeesControl, SeesKey}
 use Rattle.bcl_map.proofs.Keys.{no_value}
 use Rattle.bcl_map.proofs.Counts.{bars_key, bars_used, is_full}
-use Rattle.bcl_map.proofs.Known.{heading_knows, knows_passed}
+use Rattle.bcl_map.proofs.Known.{heading_knows, walked_least, knows_passed}
 use Rattle.bcl_map.proofs.Gets.{near, shows_tag, absent_behind, absent_at_end, passed_more, gets}
 use Rattle.bcl_map.proofs.Finds.{ArePlain, plain_same, walked_plain, key_word, own_words, same_object, by_cell, on, whole}
 
@@ -45,10 +45,6 @@ on_path n first i low below = ⊎_elim
 heading_plain : (strayed : Bool) (k : Words) (d b : ℕ) → ArePlain (heading strayed k d b)
 heading_plain false k d b = walked_plain k d
 heading_plain true k d b = (tt, (tt, (tt, tt)))
-
-walked_least : (k : Words) (d : ℕ) → least (walked k d) ≡ 0
-walked_least k zero = refl
-walked_least k (suc d) = refl
 
 module _ (L : Shape) (p : ℕ) (t : Pairs) (cells : List Cell) (r : ℕ) (k : Words) where
   heading_passed : (strayed : Bool) (d b : ℕ) → AllSay L p t cells r (heading strayed k d b) → Says L p t cells r (passed k d)
@@ -79,10 +75,6 @@ module _ (kw vw : ℕ) (L : Shape) (law : Lawful L) (p : ℕ) (ws : List ℕ) (t
       one : (i : ℕ) → i < length f.cells → used (get_or f.cells i free) ≡ 1
       one i low = let at = on_path (places L) (begins_at L k) i (mod-lt _ law.some_place) (subst (λ (n : ℕ). i < n) f.room low) in
           subst (λ (z : ℕ). used (get_or f.cells z free) ≡ 1) at.2 (bars_used k (get_or f.cells (path L k at.0) free) (bars at.0 at.1))
-
-either : {F : Type 0} (b : Bool) → (b ≡ true → F) → (b ≡ false → F) → F
-either true = λ yes no. yes refl
-either false = λ yes no. no refl
 
 -- ---- the steps
 
@@ -144,12 +136,13 @@ module _ (kw vw : ℕ) (op : Words → Words → Words) (L : Shape) (law : Lawfu
       let none : used (get_or f.cells (path L k d) free) ≡ 0 = ap used hollow in
       let lacks : HasPlace k t → ⊥ = absent_behind L law kw vw p ws t notes f k d passes none in
       let known : Knows k (suc d) x.claims → slice_index ws w ≢ 0 = λ knows. absurd (subst (Bars k) hollow (knows_passed L p t f.cells r k (suc d) x.claims (f.noted r x is) knows d (omega arith))) in
-      either c.stops
+      ⊎_elim
       (λ (stops : c.stops ≡ true). answers x (heading strayed k e b) at plain ws t notes is f w strayed b says (SeesControl kw vw op L c strayed k d x) lacks (λ on. absurd (true≢false (sym stops ∙ on)))
       (λ stays says. record { still = stays; many = enough; some = known; free = λ _. record { ends = λ _. says; on = λ on. absurd (true≢false (sym stops ∙ on)) }; used = λ no. absurd (no zero_there) }))
       (λ (goes : c.stops ≡ false). on kw vw op L law p r k d sure x (heading strayed k e b) at plain ws t notes is f w (SeesControl kw vw op L c strayed k d x) (facing L k d (length t)) (tt, (tt, (tt, tt)))
       (passes, (omega arith, ((sure, lacks), tt)))
-      (record { still = refl; many = enough; some = known; free = λ _. record { ends = λ stops. absurd (true≢false (sym stops ∙ goes)); on = λ _. (refl, refl) }; used = λ no. absurd (no zero_there) })))
+      (record { still = refl; many = enough; some = known; free = λ _. record { ends = λ stops. absurd (true≢false (sym stops ∙ goes)); on = λ _. (refl, refl) }; used = λ no. absurd (no zero_there) }))
+      (cases_Bool c.stops))
       (λ (o : Words) (there : key_of (get_or f.cells (path L k d) free) ≡ some o).
       let shown_there = shows_tag L law (readers (path L k d) notes) (get_or f.cells (path L k d) free) o there in
       let some_there : slice_index ws w ≢ 0 = λ z. shown_there.0 (sym ok.shows ∙ z) in
