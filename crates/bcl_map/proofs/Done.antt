@@ -13,7 +13,7 @@ use Rattle.bcl_map.specs.Calls.{MapView}
 use Rattle.bcl_map.specs.Costs.{taken}
 use Rattle.bcl_map.specs.Notes.{Knows}
 use Rattle.bcl_map.specs.Walking.{Walker, strays, least}
-use Rattle.bcl_map.specs.Reaches.{Comes, Ends, IsHeading, HasPassed, IsFree, IsPast, Placed}
+use Rattle.bcl_map.specs.Reaches.{Comes, Ends, IsHeading, HasPassed, IsFree, IsPast, IsPlaceOf}
 use Rattle.bcl_map.proofs.Known.{heading_knows}
 use Rattle.bcl_map.proofs.Reached.{comes_trans, ends_behind, covered}
 
@@ -78,7 +78,7 @@ most_placed taken (place_here bucket) = 0
 most_placed taken place_full = taken
 
 -- of the exchanges at most one is won
-pub placed_most : (op : Words → Words → Words) (L : Shape) (u w : MapView) (words : ℕ) (layout : Layout) (call : MapCall Words Words) (k : Words) (r : Place) → Placed op L words layout call k u w r → w.atomics ≤ u.atomics + most_placed (taken u w) r
+pub placed_most : (op : Words → Words → Words) (L : Shape) (u w : MapView) (words : ℕ) (layout : Layout) (call : MapCall Words Words) (k : Words) (r : Place) → IsPlaceOf op L words layout call k u w r → w.atomics ≤ u.atomics + most_placed (taken u w) r
 placed_most op L u w words layout call k place_new h = covered op L call New u w h.0
 placed_most op L u w words layout call k (place_here bucket) h = let same = (h.1.fresh (ap strays h.2)).1 in omega arith
 placed_most op L u w words layout call k place_full h = let all = covered op L call Full u w h.0 in omega arith

@@ -88,10 +88,10 @@ module _ (op : Words → Words → Words) (shape : Shape) where
   Reached words layout walker key from old new reach_past = Ends walker.call walker.past old new × (new.note.claims ≡ [])
 
   -- the place of a key in a call that stores a value for it
-  abbrev pub Placed : ℕ → Layout → MapCall Words Words → Words → MapView → MapView → Place → Type 0
-  Placed words layout call key old new place_new = Ends call New old new × (new.note.claims ≡ [])
-  Placed words layout call key old new (place_here bucket) = IsOnPath words layout key bucket × Comes old new × (new.note.claims ≡ reading key bucket.number (value_of new.note.claims))
-  Placed words layout call key old new place_full = Ends call Full old new × (new.note.claims ≡ [])
+  abbrev pub IsPlaceOf : ℕ → Layout → MapCall Words Words → Words → MapView → MapView → Place → Type 0
+  IsPlaceOf words layout call key old new place_new = Ends call New old new × (new.note.claims ≡ [])
+  IsPlaceOf words layout call key old new (place_here bucket) = IsOnPath words layout key bucket × Comes old new × (new.note.claims ≡ reading key bucket.number (value_of new.note.claims))
+  IsPlaceOf words layout call key old new place_full = Ends call Full old new × (new.note.claims ≡ [])
 
 -- how many words a walk has got at most, from the begin of the path on, of so many places
 abbrev pub most_gets : ℕ → ℕ → Reach → ℕ

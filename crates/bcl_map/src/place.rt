@@ -13,7 +13,7 @@ ghost use Rattle.bcl_map.specs.Map as map;
 ghost use Rattle.bcl_map.specs.Map.{places, path, size, IsShaped};
 ghost use Rattle.bcl_map.specs.Calls.{IsBucketAt};
 ghost use Rattle.bcl_map.specs.Inserts.{writing};
-ghost use Rattle.bcl_map.specs.Reaches.{KnowsOwn, Comes, Ends, IsHeading, IsFacing, Placed, places_seen, words_placed};
+ghost use Rattle.bcl_map.specs.Reaches.{KnowsOwn, Comes, Ends, IsHeading, IsFacing, IsPlaceOf, places_seen, words_placed};
 
 use crate::control::ready;
 use crate::map::Map;
@@ -93,7 +93,7 @@ pub(crate) fn place_of<K: Object, V: Object, L: MergeLaw<V>, C: Storing>(
     requires shape { IsShaped K.WORDS V.WORDS (lead_heads lead.now) (lead_layout lead.now) (lead_key lead.now) }
     requires mine { map.home (lead_key lead.now) key.now ≡ (pass_view pass.old).rank }
     requires rest { (pass_view pass.old).note.claims ≡ [] }
-    ensures placed { Placed L.op (lead_key lead.now) (size K.WORDS V.WORDS) (lead_layout lead.now) (C.walker call.now key.now).call key.now (pass_view pass.old) (pass_view pass.new) result }
+    ensures placed { IsPlaceOf L.op (lead_key lead.now) (size K.WORDS V.WORDS) (lead_layout lead.now) (C.walker call.now key.now).call key.now (pass_view pass.old) (pass_view pass.new) result }
     ensures of { IsOf pass.new lead.now }
     ensures gets { (pass_view pass.new).gets + (pass_view pass.old).atomics ≤ (pass_view pass.old).gets + places (lead_key lead.now) * (1 + K.WORDS) + (pass_view pass.new).atomics }
     ensures again { result ≢ new_place → (pass_view pass.old).gets + places_seen (places (lead_key lead.now)) result + (pass_view pass.new).atomics ≤ (pass_view pass.new).gets + (pass_view pass.old).atomics }
