@@ -3,18 +3,16 @@ use Rattle.std.proofs.Common.{◌≡◌, ◌≢◌, ℕ, zero, suc, ◌+◌, ◌
 use Rattle.std.specs.Prelude.{All, slice_index_or}
 use Rattle.std.specs.List.{flat_map}
 use Rattle.std.proofs.lemmas.Bool.{cases_eq, cases_lt}
-use Rattle.std.proofs.lemmas.List.{append_assoc, get_or_past}
+use Rattle.std.proofs.lemmas.List.{append_assoc, get_or_past, get_or_default}
 use Rattle.std.proofs.lemmas.List.Elements.{All-nil, All-tail, All-weaker}
 use Rattle.bcl_words.specs.declared.pair.Pair.{Pair}
 use Rattle.bcl_segment.specs.declared.layout.Layout.{Layout}
 use Rattle.bcl_phase.specs.Stands.{GoesOn}
 use Rattle.bcl_map.specs.Map.{Words}
 use Rattle.bcl_map.specs.Calls.{MapView, IsMine}
-use Rattle.bcl_buffer.specs.declared.buffer.State.{State}
-use Rattle.bcl_buffer.specs.declared.buffer.State.TheVariants.{Filling, Turning, Exchanged}
+use Rattle.bcl_buffer.specs.declared.buffer.State.TheVariants.{Filling, Exchanged}
 use Rattle.bcl_buffer.specs.Lanes.{Lanes, lane, home_in, IsPlaced}
 use Rattle.bcl_buffer.specs.Drains.{IsFor, shape_in}
-use Rattle.bcl_buffer.proofs.Swaps.{get_any}
 
 module _ {P : Type 0} where
   abbrev pub joined : List (List P) → List P
@@ -66,7 +64,7 @@ module _ {P : Type 0} where
       (cases_eq r i)
 
   pub here_is : (ls : List (List P)) (i : ℕ) (x : List P) → i < length ls → x ≡ get_or ls i x → x ≡ lane_at ls i
-  here_is ls i x low e = e ∙ get_any ls i x [] low
+  here_is ls i x low e = e ∙ get_or_default ls i x [] low
 
   pub all_behind : (Q : P → Type 0) (front xs : List P) → All Q (front ++ xs) → All Q xs
   all_behind Q [] xs a = a

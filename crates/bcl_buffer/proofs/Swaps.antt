@@ -1,27 +1,24 @@
 -- Lanes that change places, one after another.
-use Rattle.std.proofs.Common.{◌≡◌, ◌≢◌, ℕ, zero, suc, ◌+◌, ◌-◌, ◌<◌, ◌≤◌, inl, inr, List, [], ◌∷◌, ◌++◌, length, set, get_or, length-set, get_or-set_same, get_or-set_other, refl, sym, ap, ap₂, ◌∙◌, subst, ⊎_elim, arith, le_refl}
+use Rattle.std.proofs.Common.{◌≡◌, ◌≢◌, ℕ, ◌+◌, ◌-◌, ◌<◌, ◌≤◌, inl, inr, List, [], ◌++◌, length, set, get_or, length-set, get_or-set_same, get_or-set_other, refl, sym, ap, ap₂, ◌∙◌, subst, ⊎_elim, arith, le_refl}
 use Rattle.std.specs.Prelude.{All, slice_index_or}
 use Rattle.std.proofs.lemmas.Bool.{cases_eq, cases_lt}
-use Rattle.std.proofs.lemmas.List.{set-append_left, set-append_right, get_or_append_left, get_or-append_right, get_or_past}
+use Rattle.std.proofs.lemmas.List.{set-append_left, set-append_right, get_or_append_left, get_or-append_right, get_or_past, get_or_default}
 use Rattle.std.proofs.lemmas.List.Elements.{All-nil}
 use Rattle.bcl_segment.specs.declared.layout.Layout.{Layout}
 use Rattle.bcl_buffer.specs.Lanes.{Lanes, lane}
-use Rattle.bcl_buffer.specs.Exchanges.{at, with_lane, AreWide, AreTurning, AllFill, Opened, IsTurned, IsNext, Turned, Settled}
-
-pub get_any : {A : Type 0} (xs : List A) (i : ℕ) (d e : A) → i < length xs → get_or xs i d ≡ get_or xs i e
-get_any [] i d e low = absurd (omega arith)
-get_any (x ∷ xs) zero d e low = refl
-get_any (x ∷ xs) (suc i) d e low = get_any xs i d e (omega arith)
+use Rattle.bcl_buffer.specs.declared.buffer.State.TheVariants.{Exchanged}
+use Rattle.bcl_buffer.specs.Exchanges.{at, AllFill}
+use Rattle.bcl_buffer.specs.Turning.{IsTurned, IsNext, with_lane, AreWide, AreTurning, Opened, Turned}
 
 none_left : (r : ℕ) → r - r ≡ 0
 none_left r = omega arith
 
 module _ {A : Type 0} (bs low high : List A) (r : ℕ) (is : bs ≡ low ++ high) (long : length low ≡ r) where
   pub at_low : (s : ℕ) (d e : A) → s < r → get_or bs s d ≡ get_or low s e
-  at_low s d e less = ap (λ (z : List A). get_or z s d) is ∙ (get_or_append_left low high d s (omega arith) ∙ get_any low s d e (omega arith))
+  at_low s d e less = ap (λ (z : List A). get_or z s d) is ∙ (get_or_append_left low high d s (omega arith) ∙ get_or_default low s d e (omega arith))
 
   pub at_high : (d e : A) → 0 < length high → get_or bs r d ≡ get_or high 0 e
-  at_high d e some = ap (λ (z : List A). get_or z r d) is ∙ (get_or-append_right low high r r d long (le_refl r) ∙ (ap (λ (n : ℕ). get_or high n d) (none_left r) ∙ get_any high 0 d e some))
+  at_high d e some = ap (λ (z : List A). get_or z r d) is ∙ (get_or-append_right low high r r d long (le_refl r) ∙ (ap (λ (n : ℕ). get_or high n d) (none_left r) ∙ get_or_default high 0 d e some))
 
   pub set_both : (s : ℕ) (x y : A) → s < r → set low s x ++ set high 0 y ≡ set (set bs s x) r y
   set_both s x y less = sym (
@@ -180,11 +177,20 @@ module _ {P : Type 0} where
       none i j (inr (inl row)) = let less = row.1 in absurd (omega arith)
       none i j (inr (inr column)) = let less = column.1 in absurd (omega arith)
 
+  -- all have changed places, and the first r buffers are exchanged
+  pub record Settled (start now : List (Lanes P)) (r : ℕ) : Type 0 where
+    pub count : length now ≡ length start
+    pub wide : AreWide now
+    pub rank : (i : ℕ) → i < length start → (at now i).rank ≡ (at start i).rank
+    pub shape : (i : ℕ) → i < length start → (at now i).shape ≡ (at start i).shape
+    pub lanes : (i j : ℕ) → i < length start → j < length start → lane (at now i) j ≡ lane (at start j) i
+    pub exchanged : (i : ℕ) → i < r → (at now i).state ≡ Exchanged
+
   -- once all lanes have changed places, all items of a buffer are for its own rank
   pub own_items : (home : Layout → P → ℕ) (old opened now : List (Lanes P)) (m r : ℕ) (any : Lanes P) → AllFill old → Opened home old opened → Settled old now m → r < length old
       → (rank : ℕ) → All (λ p. home (slice_index_or now r any).shape p ≡ (slice_index_or now r any).rank) (lane (slice_index_or now r any) rank)
   own_items home old opened now m r any fill opens settled within rank =
-      subst (λ (b : Lanes P). All (λ p. home b.shape p ≡ b.rank) (lane b rank)) (get_any now r _ any (let count = settled.count in omega arith)) here
+      subst (λ (b : Lanes P). All (λ p. home b.shape p ≡ b.rank) (lane b rank)) (get_or_default now r _ any (let count = settled.count in omega arith)) here
     where
       shapes : (s : ℕ) → s < length old → (at old s).shape ≡ (at now r).shape
       shapes s less = fill.shape s less ∙ (sym (fill.shape r within) ∙ sym (settled.shape r within))

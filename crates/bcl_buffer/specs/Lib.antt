@@ -1,3 +1,5 @@
 pub mod Lanes
 pub mod Exchanges
+pub mod Turning
 pub mod Drains
+pub mod Flushes

@@ -1,10 +1,11 @@
 //! The exchange of all buffers' lanes.
 
-ghost use Rattle.std.specs.Prelude.{◌≡◌, ◌<◌, ◌+◌, ℕ, List, length, set};
+ghost use Rattle.std.specs.Prelude.{◌≡◌, ◌<◌, ◌+◌, ℕ, List, All, length, set};
 ghost use Rattle.bcl_words.specs.declared.pair.Pair.{Pair};
 ghost use Rattle.bcl_buffer.specs.declared.buffer.State.TheVariants.{Turning};
 ghost use Rattle.bcl_buffer.specs.Lanes.{Lanes, lane, home_in};
-ghost use Rattle.bcl_buffer.specs.Exchanges.{at, with_lane, AreWide, AreTurning, Opened, Turned, AllFill, Exchanges};
+ghost use Rattle.bcl_buffer.specs.Exchanges.{at, AllFill, Exchanges};
+ghost use Rattle.bcl_buffer.specs.Turning.{with_lane, AreWide, AreTurning, Opened, Turned};
 
 use crate::buffer::Buffer;
 use bcl_words::Object;
@@ -79,6 +80,7 @@ fn open<K: Object, V: Object>(buffers: &mut [Buffer<K, V>])
 pub fn exchange<K: Object, V: Object>(buffers: &mut [Buffer<K, V>])
     requires fill { AllFill buffers.old }
     ensures exchanges { Exchanges buffers.old buffers.new }
+    ensures homes { (r s : ℕ) → r < length buffers.old → All (λ p. home_in K.WORDS (at buffers.old r).shape (K.words p.a) ≡ s) (lane (at buffers.old r) s) }
 {
     open(buffers);
     turn(buffers);

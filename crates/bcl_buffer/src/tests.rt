@@ -1,16 +1,18 @@
 //! Buffers of two ranks, with two buckets each: the keys 0 and 2 have their home at rank 0, and 3 and 6 at rank 1.
 
 ghost use Rattle.std.specs.Prelude.{◌≡◌, ◌<◌, ◌≤◌, ◌^◌, IfOk};
+ghost use Rattle.bcl_words.specs.Words.{Fits};
 ghost use Rattle.bcl_segment.specs.Places.{places};
 ghost use Rattle.bcl_buffer.specs.declared.buffer.State.TheVariants.{Filling};
 
 use crate::{Buffer, exchange};
 use bcl_segment::Layout;
-use bcl_words::NoMemory;
+use bcl_words::{NoMemory, Object};
 use std::alloc::Global;
 use std::test::Fail;
 
 mod drain;
+mod flush;
 
 const SHAPE: Layout = Layout {
     ranks: 2,
@@ -18,12 +20,13 @@ const SHAPE: Layout = Layout {
 };
 
 // A buffer of a rank, with these pairs.
-fn filled(
+fn filled<K: Object, V: Object>(
     alloc: Global,
     shape: Layout,
     rank: u32,
-    pairs: &[(u64, u64)],
-) -> Result<Buffer<u64, u64>, NoMemory>
+    pairs: &[(K, V)],
+) -> Result<Buffer<K, V>, NoMemory>
+    requires key { Fits K.WORDS }
     requires rank { rank < shape.ranks }
     requires places { (1 ≤ places shape) × (places shape ≤ 2 ^ 27) }
     ensures rank { IfOk result (λ b. b.rank ≡ rank) }

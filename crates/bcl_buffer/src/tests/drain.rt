@@ -11,6 +11,7 @@ ghost use Rattle.bcl_buffer.specs.declared.buffer.State.TheVariants.{Exchanged};
 ghost use Rattle.bcl_buffer.specs.Drains.{shape_in, IsFor};
 
 use super::{SHAPE, filled};
+use crate::tutorial::{begun, closed};
 use crate::{Buffer, Drained, State, exchange};
 use bcl_map::{ClosedMap, MapHome, MapLead, MapPass};
 use bcl_merge::{Merger, Sum, wrapping_sum};
@@ -21,30 +22,6 @@ use std::alloc::Global;
 use std::marker::Sync;
 use std::test::Fail;
 use std::thread::Threads;
-
-// Begins a phase under Own, of a map of this shape.
-fn begun<K: Object, V: Object, L: MergeLaw<V>>(
-    alloc: Global,
-    shape: Layout,
-) -> Result<(MapLead<K, V, L>, Vec<MapPass<Own, K, V, L>>), NoMemory>
-    requires key { Fits K.WORDS }
-    requires value { Fits V.WORDS }
-    requires ranks { (1 ≤ shape.ranks) × (shape.ranks ≤ 64) }
-    requires buckets { 1 ≤ shape.per_rank }
-    requires words { shape.ranks * shape.per_rank * (1 + (K.WORDS + V.WORDS)) ≤ 2 ^ 27 }
-    ensures all { IfOk result (λ r. AreAll (λ p. p.pass) r.0.lead r.1.items) }
-    ensures shape { IfOk result (λ r. lead_key r.0 ≡ shape_in K.WORDS shape) }
-{
-    let home = MapHome::<K, V, L>::new(alloc, shape.ranks, shape.per_rank)?;
-    Ok(home.begin::<Own>(alloc)?)
-}
-
-fn closed<K: Object, V: Object, L: MergeLaw<V>>(
-    alloc: Global,
-    home: MapHome<K, V, L>,
-) -> Result<ClosedMap<K, V, L>, NoMemory> {
-    Ok(home.close(alloc)?)
-}
 
 // Whether a buffer has pairs for a rank of a map of this shape.
 fn is_for<K: Object, V: Object>(buffer: &Buffer<K, V>, rank: u32, shape: Layout) -> bool

@@ -1,6 +1,5 @@
-use Rattle.std.proofs.Common.{rules, ◌≡◌, ◌≢◌, ◌++◌, [], ◌∷◌, List, All, refl, sym, ap, subst}
+use Rattle.std.proofs.Common.{rules, ◌≢◌, ◌++◌, [], ◌∷◌, All, refl, subst}
 use Rattle.std.proofs.lemmas.List.Elements.{All-head, All-tail, All-weaker}
-use Rattle.bcl_words.specs.declared.pair.Pair.{Pair}
 use Rattle.bcl_map.specs.declared.inserted.Inserted.TheVariants.{Full as was_full}
 use Rattle.bcl_map.specs.Calls.{IsMine}
 use Rattle.bcl_map.specs.Reaches.{inserted}

@@ -1,4 +1,4 @@
-use Rattle.bcl_buffer.specs.Exchanges.{Settled}
+use Rattle.bcl_buffer.proofs.Swaps.{Settled}
 use Rattle.bcl_buffer.proofs.exchanging.exchange.Given as goal
 
 abbrev pub invariant-loop-r : goal.invariant-loop-r

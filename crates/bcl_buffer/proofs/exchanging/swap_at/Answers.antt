@@ -1,6 +1,6 @@
 use Rattle.std.proofs.Common.{◌≡◌, ◌+◌, ◌++◌, length, length-append, set, ap, ap₂, sym, ◌∙◌, arith}
 use Rattle.bcl_buffer.specs.Lanes.{lane}
-use Rattle.bcl_buffer.specs.Exchanges.{with_lane}
+use Rattle.bcl_buffer.specs.Turning.{with_lane}
 use Rattle.bcl_buffer.proofs.Swaps.{at_low, at_high, set_both}
 use Rattle.bcl_buffer.proofs.exchanging.swap_at.Goals as goal
 

@@ -1,4 +1,4 @@
-use Rattle.bcl_buffer.specs.Exchanges.{Turned}
+use Rattle.bcl_buffer.specs.Turning.{Turned}
 use Rattle.bcl_buffer.proofs.exchanging.turn.Given as goal
 
 abbrev pub invariant-loop-r : goal.invariant-loop-r

@@ -1,7 +1,7 @@
 use Rattle.std.proofs.Common.{◌≡◌, List, length}
 use Rattle.bcl_words.specs.declared.pair.Pair.{Pair}
 use Rattle.bcl_buffer.specs.Lanes.{Lanes}
-use Rattle.bcl_buffer.specs.Exchanges.{AreWide, AreTurning, Turned}
+use Rattle.bcl_buffer.specs.Turning.{AreWide, AreTurning, Turned}
 use Rattle.bcl_buffer.proofs.exchanging.turn_row.Given as goal
 
 abbrev pub invariant-loop-s : goal.invariant-loop-s

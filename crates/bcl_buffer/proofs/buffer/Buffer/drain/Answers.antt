@@ -5,11 +5,11 @@ use Rattle.bcl_words.specs.declared.pair.Pair.{Pair}
 use Rattle.bcl_segment.specs.declared.layout.Layout.{Layout}
 use Rattle.bcl_segment.specs.Places.{places}
 use Rattle.bcl_map.specs.Parts.{lead_key, pass_view}
-use Rattle.bcl_buffer.specs.declared.buffer.State.TheVariants.{Filling, Exchanged}
+use Rattle.bcl_buffer.specs.declared.buffer.State.TheVariants.{Filling}
 use Rattle.bcl_buffer.specs.Lanes.{Lanes, items, home_in}
 use Rattle.bcl_buffer.specs.Drains.{Merged}
 use Rattle.bcl_buffer.proofs.Running.{merged_none, merged_trans}
-use Rattle.bcl_buffer.proofs.Emptied.{joined, lane_at, AreEmpty, taken_here, emptied_more, all_emptied, joined_none, placed_set, all_behind, here_is, full_left, same_but_lanes, filling_again, placed_none, placed_in, placed_out, mine_of}
+use Rattle.bcl_buffer.proofs.Emptied.{joined, AreEmpty, taken_here, emptied_more, all_emptied, joined_none, placed_set, all_behind, here_is, full_left, same_but_lanes, filling_again, placed_none, placed_in, placed_out, mine_of}
 use Rattle.bcl_buffer.proofs.buffer.Buffer.drain.Goals as goal
 
 pub loop-rank-init : goal.loop-rank-init

@@ -1,4 +1,4 @@
-use Rattle.std.proofs.Common.{◌≡◌, ◌++◌, ℕ, List, [], All, length}
+use Rattle.std.proofs.Common.{◌≡◌, ◌++◌, ℕ, List, All, length}
 use Rattle.bcl_words.specs.declared.pair.Pair.{Pair}
 use Rattle.bcl_map.specs.Parts.{lead_key, pass_view, IsOf}
 use Rattle.bcl_buffer.specs.declared.buffer.State.TheVariants.{Exchanged}
