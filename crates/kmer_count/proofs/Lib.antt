@@ -1,1 +1,5 @@
 pub mod Raised
+pub mod Rooms
+pub mod Merges
+pub mod Books
+pub mod Sorts

@@ -1,0 +1,129 @@
+-- The book of a count, from what the home knows at the end of the phase, and what the map has in the end.
+use Rattle.std.proofs.Common.{◌≡◌, ℕ, zero, suc, ◌+◌, ◌^◌, ◌%◌, ◌<◌, List, [], ◌∷◌, Bool, true, false, cond, length, map, replicate, refl, sym, ap, ◌∙◌, subst, arith, Some, None}
+use Rattle.std.specs.Prelude.{All, fold}
+use Rattle.std.specs.List.Sorted.{IsPermutation}
+use Rattle.std.specs.Option.{option_map}
+use Rattle.std.specs.Str.{bytes_eq}
+use Rattle.std.proofs.lemmas.List.{length-map}
+use Rattle.std.proofs.lemmas.List.Elements.{All-nil, All-cons, All-head, All-tail, All-weaker, All-append, All-map}
+use Rattle.std.proofs.lemmas.List.Sorted.{All-permutation}
+use Rattle.bcl_words.specs.Numbers.{one_word}
+use Rattle.bcl_merge.specs.Sum.{sum_of}
+use Rattle.bcl_event.specs.declared.event.Event.{Event}
+use Rattle.bcl_event.specs.declared.map.MapCall.{MapCall}
+use Rattle.bcl_event.specs.declared.map.MapReply.{MapReply}
+use Rattle.bcl_event.specs.History.{of, state_after}
+use Rattle.bcl_event.specs.Map.{value_at, map_step}
+use Rattle.bcl_event.specs.Merged.{MapHistory, Merges, merged_by, merged_for, folded}
+use Rattle.bcl_event.proofs.Rooms.{none_full}
+use Rattle.bcl_event.proofs.Folds.{values_are_folds}
+use Rattle.bcl_phase.specs.Phases.{Ended}
+use Rattle.bcl_phase.specs.Rule.{IsPermitted}
+use Rattle.bcl_map.specs.declared.shape.Shape.{Shape}
+use Rattle.bcl_map.specs.Map.{Words, places, owning, home, ranks as ranks_of, first_pairs, next, permits}
+use Rattle.kmer_text.specs.Kmers.{number_of}
+use Rattle.kmer_text.specs.Windows.{all_windows, total}
+use Rattle.kmer_rows.specs.Counts.{times, noted}
+use Rattle.kmer_count.specs.Book.{shape_of, one_more, IsAtHome, CountBook}
+use Rattle.kmer_count.proofs.Raised.{times-le-length}
+use Rattle.kmer_count.proofs.Rooms.{room, home_low}
+use Rattle.kmer_count.proofs.Merges.{call_of, those_at, merges_of_all, keys_are_few, each_is}
+
+abbrev Made : Type 0
+Made = Event (MapCall Words Words) (MapReply Words)
+
+both : {X : Type 0} (P Q R : X → Type 0) → ((x : X) → P x → Q x → R x) → (xs : List X) → All P xs → All Q xs → All R xs
+both P Q R gives [] p q = All-nil R
+both P Q R gives (x ∷ xs) p q = All-cons R x xs (gives x (All-head P x xs p) (All-head Q x xs q)) (both P Q R gives xs (All-tail P x xs p) (All-tail Q x xs q))
+
+all_of_map : {X Y : Type 0} (P : Y → Type 0) (f : X → Y) (xs : List X) → All P (map f xs) → All (λ x. P (f x)) xs
+all_of_map P f [] all = All-nil (λ x. P (f x))
+all_of_map P f (x ∷ xs) all = All-cons (λ y. P (f y)) x xs (All-head P (f x) (map f xs) all) (all_of_map P f xs (All-tail P (f x) (map f xs) all))
+
+-- ---- ones that are summed up
+
+sums : (a n : ℕ) → a < 2 ^ 64 → fold sum_of (one_word a) (replicate n (one_word 1)) ≡ one_word ((a + n) % 2 ^ 64)
+sums a zero low = ap one_word (omega arith)
+sums a (suc n) low = sums ((a + 1) % 2 ^ 64) n (omega arith) ∙ ap one_word (omega arith)
+
+ones_are : (n : ℕ) → n < 2 ^ 64 → folded sum_of None (replicate n (one_word 1)) ≡ option_map one_word (noted n)
+ones_are zero low = refl
+ones_are (suc n) low = ap (λ (v : Words). Some v) (sums 1 n (omega arith) ∙ ap one_word (omega arith))
+
+-- ---- ones that are merged for a key
+
+abbrev IsOne : Words → Type 0
+IsOne value = value ≡ one_word 1
+
+abbrev IsOneMore : Made → Type 0
+IsOneMore e = (q : ℕ) × (e.call ≡ one_more q)
+
+as_many : (values : List Words) → All IsOne values → values ≡ replicate (length values) (one_word 1)
+as_many [] all = refl
+as_many (v ∷ vs) all = λ i. All-head IsOne v vs all i ∷ as_many vs (All-tail IsOne v vs all) i
+
+merged_are_ones : (key : Words) (history : MapHistory) → All IsOneMore history → All IsOne (merged_for key history)
+merged_are_ones key [] all = All-nil IsOne
+merged_are_ones key (e ∷ history) all =
+    let it = All-head IsOneMore e history all in
+    All-append IsOne (merged_by key e.call) (merged_for key history) (subst (λ c. All IsOne (merged_by key c)) (sym it.1) (one (bytes_eq key (one_word it.0)))) (merged_are_ones key history (All-tail IsOneMore e history all))
+  where
+    one : (b : Bool) → All IsOne (cond b (one_word 1 ∷ []) [])
+    one true = All-cons IsOne (one_word 1) [] refl (All-nil IsOne)
+    one false = All-nil IsOne
+
+module _ (k ranks : ℕ) (lines : List (List ℕ)) where
+  abbrev shape : Shape
+  shape = shape_of ranks (total k lines)
+
+  abbrev numbers : List ℕ
+  numbers = map number_of (all_windows k lines)
+
+  abbrev pub home_of : ℕ → ℕ
+  home_of q = home shape (one_word q)
+
+  -- ---- the book
+
+  module _ (some : 0 < ranks) (history : MapHistory) (ended : Ended ranks_of first_pairs (next sum_of) permits shape owning [] history)
+      (own : (r : ℕ) → r < ranks → IsPermutation (map one_more (those_at home_of r numbers)) (map call_of (of r history))) where
+    permitted : All (IsPermitted ranks_of permits shape owning) history
+    permitted = subst (All (IsPermitted ranks_of permits shape owning)) (sym ended.since) ended.permitted
+
+    ranked : All (λ e. e.rank < ranks) history
+    ranked = All-weaker (IsPermitted ranks_of permits shape owning) (λ e. e.rank < ranks) (λ e may. may.1) history permitted
+
+    merges : IsPermutation (map one_more numbers) (map call_of history)
+    merges = merges_of_all home_of ranks (λ q. home_low ranks (total k lines) some (one_word q)) numbers history ranked own
+
+    ones : All IsOneMore history
+    ones =
+        all_of_map (λ c. (q : ℕ) × (c ≡ one_more q)) call_of history
+        (All-permutation (λ c. (q : ℕ) × (c ≡ one_more q)) (map one_more numbers) (map call_of history) merges
+        (All-map (λ c. (q : ℕ) × (c ≡ one_more q)) one_more numbers (λ i d low. (_, refl))))
+
+    -- what the home of the end knows of a phase that began with an empty map, in which each rank has merged the numbers whose home it is
+    pub book_of_phase : CountBook k ranks lines history
+    book_of_phase = record {
+      legal = ended.legal;
+      ranked = ranked;
+      none_full = none_full (places shape) sum_of [] history ended.legal (let few = keys_are_few numbers history merges in let long = length-map (all_windows k lines) number_of in let two = room ranks (total k lines) some in omega arith);
+      at_home = both IsOneMore (IsPermitted ranks_of permits shape owning) (IsAtHome shape) (λ e is may. (is.0, is.1, subst (λ c. permits shape owning e.rank c) is.1 may.0)) history ones permitted;
+      each = each_is numbers history merges;
+    }
+
+  -- ---- what the map has in the end
+
+  module _ (few : total k lines < 2 ^ 64) (history : MapHistory) (book : CountBook k ranks lines history) where
+    ones_at_home : All IsOneMore history
+    ones_at_home = All-weaker (IsAtHome shape) IsOneMore (λ e it. (it.0, it.1)) history book.at_home
+
+    -- each number has how often it is among those of the windows
+    pub counts_are : (q : ℕ) → value_at (one_word q) (state_after (map_step (places shape) sum_of) [] history) ≡ option_map one_word (noted (times q numbers))
+    counts_are q =
+        values_are_folds sum_of (places shape) (one_word q) [] history (record {
+          legal = book.legal;
+          merges = All-weaker IsOneMore (λ e. Merges e.call) (λ e it. subst Merges (sym it.1) tt) history ones_at_home;
+          none_full = book.none_full;
+        })
+        ∙ (ap (folded sum_of None) (as_many (merged_for (one_word q) history) (merged_are_ones (one_word q) history ones_at_home) ∙ ap (λ (n : ℕ). replicate n (one_word 1)) (book.each q))
+        ∙ ones_are (times q numbers) (let most = times-le-length q (all_windows k lines) in omega arith))
