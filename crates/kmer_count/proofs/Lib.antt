@@ -3,3 +3,5 @@ pub mod Rooms
 pub mod Merges
 pub mod Books
 pub mod Sorts
+pub mod Ones
+pub mod Shares

@@ -9,9 +9,11 @@
 //! What the text of a count is says `kmer_rows`, which also writes its rows.
 #![tactic(auto)]
 
-mod count;
+mod filler;
+mod filling;
 mod tally;
 #[cfg(test)]
 mod tests;
+mod text;
 
-pub use count::count_text;
+pub use text::count_text;

@@ -2,7 +2,7 @@ use Rattle.std.proofs.Common.{◌≡◌, ◌++◌, ◌<◌, ◌^◌}
 use Rattle.std.specs.List.{All}
 use Rattle.kmer_rows.specs.Count.{count_text}
 use Rattle.kmer_rows.specs.Counts.{rows}
-use Rattle.kmer_count.proofs.count.count_text.Given as goal
+use Rattle.kmer_count.proofs.text.count_text.Given as goal
 
 -- the rows so far, and those that are left
 abbrev pub invariant-loop-kmer : goal.invariant-loop-kmer

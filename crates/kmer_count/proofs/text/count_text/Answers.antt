@@ -4,7 +4,7 @@ use Rattle.std.proofs.lemmas.List.Elements.{All-head, All-tail, All-from_recursi
 use Rattle.kmer_rows.specs.Counts.{rows}
 use Rattle.kmer_rows.proofs.Texts.{text_is, in_range, rows-append}
 use Rattle.kmer_count.proofs.Raised.{entries_count}
-use Rattle.kmer_count.proofs.count.count_text.Goals as goal
+use Rattle.kmer_count.proofs.text.count_text.Goals as goal
 
 pub loop-kmer-init : goal.loop-kmer-init
 loop-kmer-init c =
