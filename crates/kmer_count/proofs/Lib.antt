@@ -5,3 +5,4 @@ pub mod Books
 pub mod Sorts
 pub mod Ones
 pub mod Shares
+pub mod Columns

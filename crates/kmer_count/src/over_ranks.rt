@@ -1,0 +1,121 @@
+//! The count over ranks that share a map.
+
+ghost use Rattle.std.specs.Prelude.{◌≡◌, ◌≤◌, ◌+◌, ◌*◌, ◌^◌, All, IsTrue, IfOk, Some, None};
+ghost use Rattle.std.specs.List.Sorted.{IsPermutation, IsNonDecreasingBy};
+ghost use Rattle.kmer_text.specs.Kmers.{IsKmerLength};
+ghost use Rattle.kmer_text.specs.Letters.{are_letters};
+ghost use Rattle.kmer_text.specs.Windows.{total};
+ghost use Rattle.bcl_map.specs.Parts.{closed_view};
+ghost use Rattle.kmer_rows.specs.Counts.{AreCounts};
+ghost use Rattle.kmer_count.specs.Book.{buckets, shape_of, CountBook};
+
+use crate::filling::fill;
+use crate::phase::{begun, closed};
+use bcl_bloom::FilterHome;
+use bcl_buffer::flush;
+use bcl_map::ClosedMap;
+use bcl_merge::{Merger, Sum, wrapping_sum};
+use bcl_phase::Gate;
+use bcl_segment::Layout;
+use bcl_words::NoMemory;
+use kmer_text::{Kmer, Lines};
+use std::alloc::Global;
+use std::marker::Sync;
+use std::thread::Threads;
+
+/// What a count is to do: the letters of a k-mer, the ranks, the least count of a k-mer that is answered, and how many
+/// windows the lines have.
+#[derive(Clone, Copy, Debug)]
+pub struct CountPlan {
+    pub k: u32,
+    pub ranks: u32,
+    pub min: u64,
+    pub windows: u64,
+}
+
+/// What a count answers: the k-mers with their counts in the order of the k-mers, and the map and the filter that the
+/// ranks shared, of which a count with the least minimum asks none.
+#[derive(Drop)]
+pub struct Counted {
+    pub sorted: Vec<(Kmer, u64)>,
+    pub closed: ClosedMap<Kmer, u64, Sum>,
+    pub filter: Option<FilterHome<Kmer>>,
+}
+
+// How many buckets each rank has.
+fn buckets_of(ranks: u32, windows: u64) -> u32
+    requires ranks { (1 ≤ ranks) × (ranks ≤ 64) }
+    requires windows { windows ≤ 2 ^ 23 }
+    ensures buckets { result ≡ buckets ranks windows }
+    ensures some { 1 ≤ result }
+    ensures few { ranks * result * 3 ≤ 2 ^ 27 }
+{
+    ((2 * windows as u32 + (ranks - 1)) / ranks).max(1)
+}
+
+// The map of the k-mers of the lines, each merged by the rank of its home.
+fn map_of<H: Threads + Sync, G: Gate>(
+    rt: &H,
+    alloc: Global,
+    lines: &Lines,
+    plan: &CountPlan,
+    gate: &G,
+) -> Result<ClosedMap<Kmer, u64, Sum>, NoMemory>
+    requires k { IsKmerLength plan.now.k }
+    requires letters { All (λ line. IsTrue (are_letters line)) lines.now }
+    requires ranks { (1 ≤ plan.now.ranks) × (plan.now.ranks ≤ 64) }
+    requires windows { (plan.now.windows ≡ total plan.now.k lines.now) × (plan.now.windows ≤ 2 ^ 23) }
+    ensures book { IfOk result (λ c. CountBook plan.now.k plan.now.ranks lines.now (closed_view c).seen) }
+    ensures key { IfOk result (λ c. (closed_view c).key ≡ Some (shape_of plan.now.ranks (total plan.now.k lines.now))) }
+{
+    let shape = Layout {
+        ranks: plan.ranks,
+        per_rank: buckets_of(plan.ranks, plan.windows),
+    };
+    let buffers = fill(rt, alloc, lines, plan.k, shape, gate)?;
+    let (lead, passes) = begun::<Kmer, u64, Sum>(alloc, shape)?;
+    let sum = Merger::new(|a: u64, b: u64| wrapping_sum(a, b));
+    let (passes, _) = flush(rt, alloc, &lead, passes, buffers, &sum, gate)?;
+    closed(alloc, lead, passes)
+}
+
+// Pairs in the order of their k-mers.
+fn in_order(alloc: Global, pairs: &[(Kmer, u64)]) -> Result<Vec<(Kmer, u64)>, NoMemory>
+    ensures moved { IfOk result (λ v. IsPermutation pairs.now v.items) }
+    ensures rising { IfOk result (λ v. IsNonDecreasingBy (λ e. e.0) v.items) }
+{
+    let mut sorted = pairs.to_vec(alloc)?;
+    sorted.sort_unstable_by_key(|pair| pair.0);
+    Ok(sorted)
+}
+
+/// Counts the k-mers of lines over ranks that share a map under `Own`: each rank goes through the lines of its block, and
+/// each merges the k-mers whose home it is. Neither the counts nor their order depend on the number of ranks.
+///
+/// It is a superstep that fills buffers, and those of the flush. It refuses for want of memory alone. Condition: the lines
+/// are of letters alone and have `plan.windows` windows of `plan.k` letters, at most 2^23; there are 1 to 64 ranks; the
+/// minimum is 1.
+pub fn count<H: Threads + Sync, G: Gate>(
+    rt: &H,
+    alloc: Global,
+    lines: &Lines,
+    plan: &CountPlan,
+    gate: &G,
+) -> Result<Counted, NoMemory>
+    requires k { IsKmerLength plan.now.k }
+    requires letters { All (λ line. IsTrue (are_letters line)) lines.now }
+    requires ranks { (1 ≤ plan.now.ranks) × (plan.now.ranks ≤ 64) }
+    requires windows { (plan.now.windows ≡ total plan.now.k lines.now) × (plan.now.windows ≤ 2 ^ 23) }
+    requires least { plan.now.min ≡ 1 }
+    ensures sorted { IfOk result (λ c. AreCounts plan.now.k lines.now c.sorted.items) }
+    ensures book { IfOk result (λ c. CountBook plan.now.k plan.now.ranks lines.now (closed_view c.closed).seen) }
+    ensures filter { IfOk result (λ c. c.filter ≡ None) }
+{
+    let closed = map_of(rt, alloc, lines, plan, gate)?;
+    let sorted = in_order(alloc, closed.entries())?;
+    Ok(Counted {
+        sorted,
+        closed,
+        filter: None,
+    })
+}
