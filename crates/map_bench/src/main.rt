@@ -1,24 +1,33 @@
-//! A program for bench/map, which times it: keys are inserted into a hash map and then found, and it prints one number.
+//! A program for bench/map, which times it: pairs are stored in a hash map and their keys are then found, and it prints
+//! one number.
 //!
-//! Its words are a mode, a count of keys and a number of ranks. A mode is as far as the run goes, in the map of bcl_map
-//! or, with `std-` before it, in one thread in the map of std.
+//! Its words are a mode, a count of pairs and a number of ranks. A mode is as far as the run goes, in the map of bcl_map
+//! or, with `std-` before it, in one thread in the map of std. Three modes insert pairs that have a key each:
 //!
-//! - `keys`: makes the keys, deals them to the ranks that own them, and makes the map. The number is that of the keys.
+//! - `keys`: makes the pairs, deals them to the ranks that own their keys, and makes the map. The number is that of the
+//!   pairs.
 //! - `insert`: then inserts each key with its place in the list. The number is that of new keys.
 //! - `find`: then finds each key, in another order. The number is the sum of the values, modulo 2^64.
 //!
-//! In reading order: `job`, `keys`, `insert` and `find`, the two supersteps, and `ranked` and `single`, the two maps.
+//! Three merge pairs of which seven have the same key, in a random order: `pairs`, as `keys`; `merge`, which sums up the
+//! values of each key; and `total`, as `find`.
+//!
+//! In reading order: `job`, `keys`, `insert` and `merge`, `store` and `find`, the two supersteps, and `ranked` and
+//! `single`, the two maps.
 #![tactic(auto)]
 
 mod find;
 mod insert;
 mod job;
 mod keys;
+mod merge;
 mod ranked;
 mod single;
+mod store;
 
 use bcl_words::NoMemory;
 use job::{Job, Which};
+use keys::Lists;
 use std::alloc::Global;
 use std::env;
 use std::marker::Sync;
@@ -36,17 +45,18 @@ fn job_of(rt: &(impl Env + AllocGlobal)) -> Option<Job> {
 }
 
 fn run<H: Threads + Sync>(rt: &H, alloc: Global, job: &Job) -> Result<u64, NoMemory> {
-    let pairs = keys::random(alloc, job.count)?;
-    let wanted = keys::shuffled(alloc, &pairs)?;
+    let lists = Lists::new(alloc, job.call, job.count)?;
     match job.which {
-        Which::Ranked => ranked::run(rt, alloc, job, &pairs, &wanted),
-        Which::Std => single::run(alloc, job.stage, &pairs, &wanted),
+        Which::Ranked => ranked::run(rt, alloc, job, &lists),
+        Which::Std => single::run(alloc, job, &lists),
     }
 }
 
 fn main(rt: HostRuntime) -> ExitCode {
     let Some(job) = job_of(&rt) else {
-        let _ = eprintln!(rt; "usage: map_bench [std-](keys|insert|find) COUNT RANKS");
+        let _ = eprintln!(rt;
+            "usage: map_bench [std-](keys|insert|find|pairs|merge|total) COUNT RANKS"
+        );
         return ExitCode::from(2);
     };
     let Ok(number) = run(&rt, rt.alloc(), &job) else {

@@ -5,8 +5,9 @@ ghost use Rattle.bcl_words.specs.Words.{Fits};
 ghost use Rattle.bcl_phase.specs.Deals.{AreAll};
 
 use crate::find::{Finder, finders};
-use crate::insert::{Inserter, inserters};
 use crate::job::{Job, Stage};
+use crate::keys::Lists;
+use crate::store::{Storer, storers};
 use bcl_map::{MapHome, MapLead, MapPass};
 use bcl_merge::Sum;
 use bcl_phase::{Always, Find, Own, passes_of, superstep_all};
@@ -16,7 +17,7 @@ use std::marker::Sync;
 use std::thread::Threads;
 
 /// How many pairs were dealt.
-fn dealt<K: Object>(kits: &[Inserter<K, u64, Sum>]) -> u64 {
+fn dealt<K: Object>(kits: &[Storer<K, u64, Sum>]) -> u64 {
     let mut count = 0u64;
     for kit in kits {
         count = count.wrapping_add(kit.pairs.len() as u64);
@@ -25,7 +26,7 @@ fn dealt<K: Object>(kits: &[Inserter<K, u64, Sum>]) -> u64 {
 }
 
 /// How many keys were new.
-fn inserted<K: Object>(kits: &[Inserter<K, u64, Sum>]) -> u64 {
+fn stored<K: Object>(kits: &[Storer<K, u64, Sum>]) -> u64 {
     let mut count = 0u64;
     for kit in kits {
         count = count.wrapping_add(kit.new);
@@ -70,26 +71,25 @@ fn turned<K: Object>(
     Ok(lead.turn::<Own, Find>(alloc, passes)?)
 }
 
-/// Inserts pairs, each rank its own, and finds keys, each rank its share of them.
+/// Stores pairs, each rank its own, and finds keys, each rank its share of them.
 pub fn run<H: Threads + Sync>(
     rt: &H,
     alloc: Global,
     job: &Job,
-    pairs: &[(u64, u64)],
-    wanted: &[(u64, u64)],
+    lists: &Lists,
 ) -> Result<u64, NoMemory> {
     let (lead, passes) = begun::<u64>(alloc, job.ranks, job.per_rank)?;
-    let mut kits = inserters(alloc, &lead, passes, pairs)?;
-    if job.stage == Stage::Keys {
+    let mut kits = storers(alloc, &lead, passes, job.call, &lists.stored)?;
+    if job.stage == Stage::Dealt {
         return Ok(dealt(&kits));
     }
     superstep_all(rt, &mut kits, &Always);
-    if job.stage == Stage::Insert {
-        return Ok(inserted(&kits));
+    if job.stage == Stage::Stored {
+        return Ok(stored(&kits));
     }
     let passes = passes_of(alloc, &lead.lead, kits)?;
     let (lead, passes) = turned(alloc, lead, passes)?;
-    let mut kits = finders(alloc, &lead, passes, wanted)?;
+    let mut kits = finders(alloc, &lead, passes, &lists.wanted)?;
     superstep_all(rt, &mut kits, &Always);
     Ok(found(&kits))
 }

@@ -1,4 +1,4 @@
-use Rattle.bcl_phase.specs.Deals.{view, IsIn}
+use Rattle.bcl_phase.specs.Deals.{IsIn}
 use Rattle.map_bench.proofs.find.find_all.Given as goal
 
 abbrev pub invariant-loop-pair : goal.invariant-loop-pair

@@ -3,7 +3,7 @@ use mathlib.Core.Option.{some}
 use lib.ListN.{get_elem?}
 use Rattle.bcl_map.specs.Calls.{IsMine}
 use Rattle.bcl_phase.specs.Deals.{view, IsIn}
-use Rattle.map_bench.proofs.insert.inserters.Given as goal
+use Rattle.map_bench.proofs.store.storers.Given as goal
 
 abbrev pub invariant-loop-pass : goal.invariant-loop-pass
 invariant-loop-pass g l = record {

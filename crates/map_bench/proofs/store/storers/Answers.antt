@@ -2,7 +2,7 @@ use Rattle.std.proofs.Common.{◌≡◌, ◌+◌, [], ◌∷◌, All, length, le
 use Rattle.bcl_phase.proofs.Returns.{placed, last_placed, rest_placed}
 use Rattle.bcl_map.specs.Calls.{IsMine}
 use Rattle.bcl_phase.specs.Deals.{view, IsIn}
-use Rattle.map_bench.proofs.insert.inserters.Goals as goal
+use Rattle.map_bench.proofs.store.storers.Goals as goal
 
 pub loop-pass-preserved : goal.loop-pass-preserved
 loop-pass-preserved g c = let I = c.loop-pass.invariant in let n = length c.args.passes.items in
