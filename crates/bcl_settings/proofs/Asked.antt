@@ -1,5 +1,5 @@
 -- What is known of settings that words ask for.
-use Rattle.std.proofs.Common.{◌≡◌, ℕ, ◌≤◌, Bool, true, false, List, ◌++◌, Option, None, Some, unwrap_or, ◌||◌, cond, arith, ap}
+use Rattle.std.proofs.Common.{◌≡◌, ℕ, ◌≤◌, Bool, true, false, List, ◌++◌, Option, None, Some, unwrap_or, ◌||◌, cond, arith, ap, sym, subst, ◌∙◌}
 use Rattle.std.specs.List.{All}
 use Rattle.std.specs.Option.{is_some}
 use Rattle.std.proofs.lemmas.List.Elements.{All-head}
@@ -80,6 +80,34 @@ drill_mode (modes.Drill n l j) said number lines k ranks choice offered e = offe
 pub count_asked : (words : List (List ℕ)) (k ranks min : ℕ) (choice : Choice) (hist : Bool) → AsksFor words (Count k ranks min choice hist) → (1 ≤ k) × (k ≤ 31) × (1 ≤ min)
 count_asked words k ranks min choice hist p =
     count_mode p.mode p.said k ranks min choice hist p.spelled.in_range p.offered (some_least p.spelled.behind p.said p.spelled.options_are) p.settings_are
+
+-- ---- a count has its ranks, and no minimum but the least
+
+abbrev ranks_of : Settings → ℕ
+ranks_of (Count k ranks min choice hist) = ranks
+ranks_of (Contigs k ranks choice) = ranks
+ranks_of (Drill number lines k ranks choice) = ranks
+
+ranks_in_range : (ranks : Option ℕ) (rest : List CommandOption) → All OptionInRange (with_value Ranks ranks ++ rest) → (1 ≤ unwrap_or ranks 4) × (unwrap_or ranks 4 ≤ 64)
+ranks_in_range None rest h = (omega arith, omega arith)
+ranks_in_range (Some n) rest h = All-head OptionInRange (Ranks n) rest h
+
+some_ranks : (words : List (List ℕ)) (said : Options) → NamesOptions words said → (1 ≤ unwrap_or said.ranks 4) × (unwrap_or said.ranks 4 ≤ 64)
+some_ranks words said names = ranks_in_range said.ranks (with_value Min said.min ++ (with_value Promise said.choice ++ with_hist said.hist))
+    (All-permutation OptionInRange names.named (options said) (IsPermutation-sym _ _ names.any_order) names.in_range)
+
+plan_mode : (mode : Mode) (said : Options) (k ranks min : ℕ) (choice : Choice) (hist : Bool) → IsOffered mode said → (1 ≤ unwrap_or said.ranks 4) × (unwrap_or said.ranks 4 ≤ 64)
+    → with_options mode said ≡ Some (Count k ranks min choice hist) → (1 ≤ ranks) × (ranks ≤ 64) × (min ≡ 1)
+plan_mode (modes.Count j) said k ranks min choice hist offered some e =
+    let same : unwrap_or said.ranks 4 ≡ ranks = told ranks_of _ _ e in
+    let fewest : unwrap_or said.min 1 ≡ min = told least _ _ e in
+    (subst (λ (n : ℕ). 1 ≤ n) same some.0, subst (λ (n : ℕ). n ≤ 64) same some.1, sym fewest ∙ ap (λ (o : Option ℕ). unwrap_or o 1) offered.0)
+plan_mode (modes.Contigs j) said k ranks min choice hist offered some e =
+    let differ : 2 ≡ 1 = told_if mode_number (is_some said.min || said.hist) _ _ e in absurd (omega (arith, differ))
+plan_mode (modes.Drill number lines j) said k ranks min choice hist offered some e = absurd offered
+
+pub plan_asked : (words : List (List ℕ)) (k ranks min : ℕ) (choice : Choice) (hist : Bool) → AsksFor words (Count k ranks min choice hist) → (1 ≤ ranks) × (ranks ≤ 64) × (min ≡ 1)
+plan_asked words k ranks min choice hist p = plan_mode p.mode p.said k ranks min choice hist p.offered (some_ranks p.spelled.behind p.said p.spelled.options_are) p.settings_are
 
 pub contigs_asked : (words : List (List ℕ)) (k ranks : ℕ) (choice : Choice) → AsksFor words (Contigs k ranks choice) → (1 ≤ k) × (k ≤ 31)
 contigs_asked words k ranks choice p = contigs_mode p.mode p.said k ranks choice p.spelled.in_range p.offered p.settings_are

@@ -1,13 +1,14 @@
 -- What the words of a command line ask for.
 -- The first word names a mode, its numbers stand behind it, and then come options in any order, each at most once.
-use Rattle.std.specs.Prelude.{◌≡◌, ℕ, ◌≤◌, ◌<◌, ◌^◌, ◌||◌, List, [], ◌∷◌, ◌++◌, Option, Some, None, unwrap_or, decimal, codes, if◌then◌else◌}
+use Rattle.std.specs.Prelude.{◌≡◌, ℕ, ◌≤◌, ◌<◌, ◌^◌, ◌||◌, false, List, [], ◌∷◌, ◌++◌, Option, Some, None, unwrap_or, decimal, codes, if◌then◌else◌}
 use Rattle.std.specs.Option.{is_some}
 use Rattle.bcl_settings.specs.declared.mode.Mode.{Mode}
 use Rattle.bcl_settings.specs.declared.mode.Mode.TheVariants as modes
 use Rattle.bcl_settings.specs.declared.options.Options.{Options}
 use Rattle.bcl_settings.specs.declared.settings.Settings.{Settings}
 use Rattle.bcl_settings.specs.declared.settings.Settings.TheVariants.{Count, Contigs, Drill}
-use Rattle.bcl_settings.specs.declared.settings.Choice.TheVariants.{Own}
+use Rattle.bcl_settings.specs.declared.settings.Choice.{Choice}
+use Rattle.bcl_settings.specs.declared.settings.Choice.TheVariants.{Own, Any}
 use Rattle.bcl_settings.specs.Options.{options, NamesOptions}
 
 -- the words of a mode and its numbers
@@ -37,9 +38,13 @@ pub record Spells (words : List (List ℕ)) (mode : Mode) (said : Options) : Typ
   pub options_are : NamesOptions behind said
   pub words_are : words ≡ mode_words mode ++ behind
 
--- what is offered so far: a count and contigs, without options
+-- no option is said but the ranks
+abbrev pub SaysRanksAlone : Options → Type 0
+SaysRanksAlone said = (said.min ≡ None) × (said.choice ≡ None) × (said.hist ≡ false)
+
+-- what is offered so far: a count with its ranks, and contigs without options
 abbrev pub IsOffered : Mode → Options → Type 0
-IsOffered (modes.Count k) said = options said ≡ []
+IsOffered (modes.Count k) said = SaysRanksAlone said
 IsOffered (modes.Contigs k) said = options said ≡ []
 IsOffered (modes.Drill number lines k) said = ⊥
 
@@ -54,6 +59,15 @@ pub record AsksFor (words : List (List ℕ)) (settings : Settings) : Type 0 wher
 -- some words ask for these settings
 abbrev pub IsAsked : Settings → Type 0
 IsAsked settings = (words : List (List ℕ)) × AsksFor words settings
+
+abbrev pub choice_of : Settings → Choice
+choice_of (Count k ranks min choice hist) = choice
+choice_of (Contigs k ranks choice) = choice
+choice_of (Drill number lines k ranks choice) = choice
+
+-- the words ask for a run in which a rank changes any key
+abbrev pub NamesAny : List (List ℕ) → Type 0
+NamesAny words = (settings : Settings) × AsksFor words settings × (choice_of settings ≡ Any)
 
 -- the settings that the words ask for, or none where they ask for none
 abbrev pub Reads : List (List ℕ) → Option Settings → Type 0

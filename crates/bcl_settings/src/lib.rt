@@ -19,4 +19,4 @@ mod settings;
 #[cfg(test)]
 mod tests;
 
-pub use settings::{Choice, Settings, reads_once, settings_of};
+pub use settings::{Choice, Settings, names_any, reads_once, settings_of};

@@ -99,7 +99,8 @@ impl Mode {
         ensures no { IsOffered self said → IsTrue result }
     {
         match self {
-            Mode::Count { .. } | Mode::Contigs { .. } => said.is_empty(),
+            Mode::Count { .. } => said.says_ranks_alone(),
+            Mode::Contigs { .. } => said.is_empty(),
             Mode::Drill { .. } => false,
         }
     }

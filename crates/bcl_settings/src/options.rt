@@ -3,6 +3,7 @@
 ghost use Rattle.std.specs.Prelude.{◌≡◌, ◌≢◌, List, ◌∷◌, [], ◌++◌, ℕ, ◌<◌, length, map, string_bytes, IsTrue, IfSome, IfNone};
 ghost use Rattle.std.specs.List.Sorted.{IsPermutation};
 ghost use Rattle.bcl_settings.specs.Options.{choice_word, option_words, OptionInRange, options, NamesOptions};
+ghost use Rattle.bcl_settings.specs.Settings.{SaysRanksAlone};
 ghost use Rattle.bcl_settings.specs.declared.settings.Choice.{Choice as AnyChoice};
 ghost use Rattle.bcl_settings.specs.declared.options.CommandOption.{CommandOption as AnyOption};
 ghost use Rattle.bcl_settings.specs.declared.options.Options.{Options as AnyOptions};
@@ -88,6 +89,14 @@ impl Options {
         ensures no { options self ≡ [] → IsTrue result }
     {
         self.ranks.is_none() && self.min.is_none() && self.choice.is_none() && !self.hist
+    }
+
+    /// Whether none is said but the ranks, or none at all.
+    pub(crate) fn says_ranks_alone(self) -> bool
+        ensures yes { IsTrue result → SaysRanksAlone self }
+        ensures no { SaysRanksAlone self → IsTrue result }
+    {
+        self.min.is_none() && self.choice.is_none() && !self.hist
     }
 
     /// The same and an option more, unless one like it is said.

@@ -1,7 +1,7 @@
 //! The settings, and the words that ask for them.
 
-ghost use Rattle.std.specs.Prelude.{◌≡◌, ℕ, List, Option, map, string_bytes, IfSome, IfNone};
-ghost use Rattle.bcl_settings.specs.Settings.{Spells, Reads};
+ghost use Rattle.std.specs.Prelude.{◌≡◌, ℕ, List, Option, true, false, map, string_bytes, IfSome, IfNone};
+ghost use Rattle.bcl_settings.specs.Settings.{Spells, Reads, NamesAny, choice_of};
 ghost use Rattle.bcl_settings.specs.declared.settings.Settings.{Settings as AnySettings};
 ghost use Rattle.bcl_settings.specs.declared.mode.Mode.{Mode as AnyMode};
 ghost use Rattle.bcl_settings.specs.declared.options.Options.{Options as AnyOptions};
@@ -56,8 +56,8 @@ pub(crate) fn spelled(words: &[String]) -> Option<(Mode, Options)>
     Some((mode, options_in(rest)?))
 }
 
-/// Reads the words behind the program's name: so far `count K` or `contigs K`, with K from 1 to 31. Each other list of
-/// words asks for nothing.
+/// Reads the words behind the program's name: so far `count K`, with `--ranks N` behind it or not, or `contigs K`, with K
+/// from 1 to 31 and N from 1 to 64. Each other list of words asks for nothing.
 pub fn settings_of(words: &[String]) -> Option<Settings>
     ensures { Reads (map string_bytes words.now) result }
 {
@@ -68,6 +68,30 @@ pub fn settings_of(words: &[String]) -> Option<Settings>
         return None;
     }
     mode.with_options(said)
+}
+
+/// Whether the words ask for a run in which a rank changes any key.
+pub fn names_any(words: &[String]) -> bool
+    ensures yes { result ≡ true → NamesAny (map string_bytes words.now) }
+    ensures no { result ≡ false → NamesAny (map string_bytes words.now) → ⊥ }
+{
+    match settings_of(words) {
+        Some(settings) => settings.choice() == Choice::Any,
+        None => false,
+    }
+}
+
+impl Settings {
+    /// The promise under which its ranks work.
+    fn choice(&self) -> Choice
+        ensures { result ≡ choice_of self.now }
+    {
+        match *self {
+            Settings::Count { choice, .. } => choice,
+            Settings::Contigs { choice, .. } => choice,
+            Settings::Drill { choice, .. } => choice,
+        }
+    }
 }
 
 /// No list of words can be read in two ways.

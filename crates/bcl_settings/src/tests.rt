@@ -1,7 +1,7 @@
 //! Worked command lines.
 
 use crate::settings::spelled;
-use crate::{Choice, Settings, settings_of};
+use crate::{Choice, Settings, names_any, settings_of};
 use std::alloc::Global;
 use std::test::Fail;
 
@@ -49,10 +49,27 @@ fn options_have_their_defaults(rt: HostRuntime) -> Result<(), Fail> {
 }
 
 #[test]
-fn no_option_is_offered_yet(rt: HostRuntime) -> Result<(), Fail> {
+fn a_count_has_its_ranks(rt: HostRuntime) -> Result<(), Fail> {
+    let alloc = rt.alloc();
+    let ranked = Settings::Count {
+        k: 21,
+        ranks: 64,
+        min: 1,
+        choice: Choice::Own,
+        hist: false,
+    };
+    assert_eq!(rt; asked(alloc, "count 21 --ranks 64")?, Some(ranked));
+    assert_eq!(rt; asked(alloc, "count 21 --ranks 4")?, Some(COUNT));
+    assert!(rt; !names_any(&words_of(alloc, "count 21 --ranks 64")?));
+    assert!(rt; !names_any(&words_of(alloc, "count 21 --promise any")?));
+    Ok(())
+}
+
+#[test]
+fn no_other_option_is_offered_yet(rt: HostRuntime) -> Result<(), Fail> {
     let lines = [
-        "count 21 --ranks 4",
         "count 21 --min 1",
+        "count 21 --ranks 4 --min 1",
         "count 21 --promise own",
         "count 21 --hist",
         "contigs 21 --ranks 4",
