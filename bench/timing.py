@@ -5,6 +5,7 @@ Nothing is asserted of the times: they are for this machine and this run.
 """
 
 import collections
+import glob
 import math
 import os
 import resource
@@ -33,10 +34,16 @@ def build():
         fail("./bcl is not built")
 
 
+def built():
+    """The program behind the front door, so that what the door itself costs isn't timed."""
+    programs = glob.glob(f"{TOP}/crates/bcl_cli/out/proved/*/bcl")
+    return programs[0] if len(programs) == 1 else BCL
+
+
 def run(way, folder):
     """Runs a way once."""
     start = time.perf_counter()
-    started = subprocess.Popen(["sh", "-c", way.line], cwd=folder, env={**os.environ, "BCL": BCL, "LC_ALL": "C"})
+    started = subprocess.Popen(["sh", "-c", way.line], cwd=folder, env={**os.environ, "BCL": BCL, "BUILT": built(), "LC_ALL": "C"})
     _, status, usage = os.wait4(started.pid, 0)
     seconds = time.perf_counter() - start
     started.returncode = os.waitstatus_to_exitcode(status)
