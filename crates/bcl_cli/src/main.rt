@@ -2,6 +2,7 @@
 #![tactic(auto)]
 
 use bcl_io::{StdSink, StdSource, write_all};
+use bcl_phase::Always;
 use bcl_run::top;
 use std::alloc::Global;
 use std::io::ErrorKind;
@@ -35,6 +36,6 @@ fn main(rt: HostRuntime) -> ExitCode {
         // Words that are no text ask for nothing.
         Err(_) => Vec::new(alloc),
     };
-    let ended = top(&rt, alloc, &words, &mut src, &mut out, &mut err);
+    let ended = top(&rt, alloc, &words, &mut src, &mut out, &mut err, &Always);
     ExitCode::from(ended.status)
 }

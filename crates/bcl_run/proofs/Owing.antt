@@ -1,5 +1,5 @@
 -- What a run owes for settings that words ask for.
-use Rattle.std.proofs.Common.{◌≡◌, ◌∙◌, ℕ, List, ◌++◌, Option, None, Some, IfSome, Err, take, ap}
+use Rattle.std.proofs.Common.{◌≡◌, ◌∙◌, ℕ, List, ◌++◌, Option, None, Some, IfSome, Err, take, ap, sym, subst}
 use Rattle.std.specs.Io.KnownBytes.{Consumes, Appends, IsAtEnd}
 use Rattle.std.proofs.lemmas.List.{append-nil}
 use Rattle.bcl_settings.specs.declared.settings.Settings.{Settings}
@@ -7,6 +7,8 @@ use Rattle.bcl_settings.specs.Settings.{AsksFor}
 use Rattle.bcl_message.specs.declared.stop.Stop.{Stop}
 use Rattle.bcl_message.specs.declared.stop.Stop.TheVariants as stops
 use Rattle.bcl_run.specs.Verdict.{Verdict, Text, Refused, IsVerdict, verdict}
+use Rattle.bcl_run.specs.declared.book.Book.{Book}
+use Rattle.bcl_run.specs.Book.{IsBookOf}
 use Rattle.bcl_run.specs.Owed.{Excuses, Owed, Devices, TookAll, TookFront}
 
 -- a source that is at its end had left just what was read
@@ -14,6 +16,12 @@ pub all_read : (left new : Option (List ℕ)) (bytes : List ℕ) → Consumes le
 all_read None new bytes c end = tt
 all_read (Some xs) None bytes c end = absurd c
 all_read (Some xs) (Some ys) bytes c end = c ∙ (ap (λ rest. bytes ++ rest) end ∙ append-nil bytes)
+
+-- the book of a run on what was read is one on what was left
+pub of_left : (left : Option (List ℕ)) (bytes : List ℕ) → IfSome left (λ b. b ≡ bytes)
+    → (settings : Settings) (book : Book) → IsBookOf settings bytes book → IfSome left (λ b. IsBookOf settings b book)
+of_left None bytes read settings book is = tt
+of_left (Some b) bytes read settings book is = subst (λ (x : List ℕ). IsBookOf settings x book) (sym read) is
 
 module _ (words : List (List ℕ)) (settings : Settings) (asks : AsksFor words settings) (bytes : List ℕ) where
   is_verdict : (left : Option (List ℕ)) (v : Verdict) → verdict (Some settings) bytes ≡ v → IfSome left (λ b. b ≡ bytes) → IfSome left (λ b. IsVerdict words b v)

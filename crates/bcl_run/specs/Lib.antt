@@ -1,2 +1,3 @@
 pub mod Verdict
+pub mod Book
 pub mod Owed

@@ -5,6 +5,7 @@ use Rattle.bcl_io.specs.Faults.{Rose}
 use Rattle.bcl_message.specs.declared.stop.Stop.{Stop}
 use Rattle.bcl_message.specs.declared.stop.Stop.TheVariants as stops
 use Rattle.bcl_settings.specs.Settings.{Reads}
+use Rattle.bcl_run.specs.declared.book.Book.{Book}
 use Rattle.bcl_run.specs.Verdict.{Verdict, Text, Refused, IsVerdict}
 
 -- what the devices of a run show, before it and after it
@@ -40,8 +41,8 @@ TookAll words d = IfSome d.left_before (λ bytes. (text : List ℕ) × IsVerdict
 abbrev pub TookFront : List (List ℕ) → Devices → Type 0
 TookFront words d = IfSome d.left_before (λ bytes. (text : List ℕ) × IsVerdict words bytes (Text text) × (n : ℕ) × Appends d.taken_before d.taken_after (take n text))
 
-abbrev pub Owed : List (List ℕ) → Devices → Result (Unit {0}) Stop → Type 0
-Owed words d (Ok done) = (d.read_faults_after ≡ d.read_faults_before) × IsAtEnd d.left_after × TookAll words d
+abbrev pub Owed : List (List ℕ) → Devices → Result Book Stop → Type 0
+Owed words d (Ok book) = (d.read_faults_after ≡ d.read_faults_before) × IsAtEnd d.left_after × TookAll words d
 Owed words d (Err (stops.Refused why)) = (d.read_faults_after ≡ d.read_faults_before) × IfSome d.left_before (λ bytes. IsVerdict words bytes (Refused why))
 Owed words d (Err stops.Usage) = Reads words None
 Owed words d (Err stops.ReadFault) = Rose d.read_faults_before d.read_faults_after
@@ -49,8 +50,8 @@ Owed words d (Err stops.WriteFault) = Rose d.write_faults_before d.write_faults_
 Owed words d (Err stops.NoMemory) = Unit {0}
 
 -- the run wrote nothing
-abbrev pub WroteNothing : Result (Unit {0}) Stop → Type 0
-WroteNothing (Ok done) = ⊥
+abbrev pub WroteNothing : Result Book Stop → Type 0
+WroteNothing (Ok book) = ⊥
 WroteNothing (Err stops.WriteFault) = ⊥
 WroteNothing (Err (stops.Refused why)) = Unit {0}
 WroteNothing (Err stops.Usage) = Unit {0}

@@ -1,56 +1,124 @@
-//! The text that an input asks for, or why it is refused.
+//! The text that an input asks for with the book of its count, or why it is refused.
 
-ghost use Rattle.std.specs.Prelude.{◌≡◌, ◌^◌, ◌<◌, ◌≤◌, length, IfOk, IfErr, Some};
+ghost use Rattle.std.specs.Prelude.{◌≡◌, ◌^◌, ◌<◌, ◌≤◌, length, All, IsTrue, IfOk, IfErr, Some};
 ghost use Rattle.kmer_text.specs.Kmers.{IsKmerLength};
+ghost use Rattle.kmer_text.specs.Letters.{are_letters};
+ghost use Rattle.kmer_rows.specs.Count.{count_text};
+ghost use Rattle.kmer_rows.specs.Counts.{AreCounts};
 ghost use Rattle.bcl_run.specs.Verdict.{Text, counted, walked, verdict};
 ghost use Rattle.bcl_settings.specs.Settings.{IsAsked};
+ghost use Rattle.bcl_run.specs.Book.{IsCountOf, IsBookOf};
 ghost use Rattle.bcl_run.specs.Owed.{Excuses};
 
+use crate::Book;
 use bcl_message::Stop;
+use bcl_phase::Gate;
 use bcl_settings::Settings;
-use kmer_count::count_text;
-use kmer_text::{Lines, check_letters, check_nodes};
+use bcl_words::NoMemory;
+use kmer_count::{CountPlan, count};
+use kmer_rows::push_rows;
+use kmer_text::{Kmer, Lines, check_letters, check_nodes};
 use kmer_walk::{plain_contigs, text_of};
 use std::alloc::Global;
+use std::marker::Sync;
+use std::thread::Threads;
 
 /// The most bytes of an input.
 pub const MAX_BYTES: usize = 1 << 26;
 
-/// The text of a count of the bytes.
-fn counted(alloc: Global, k: u32, least: u64, bytes: Vec<u8>) -> Result<Vec<u8>, Stop>
+/// What an input is answered with.
+#[derive(Drop)]
+pub(crate) struct Answered {
+    pub(crate) text: Vec<u8>,
+    pub(crate) book: Book,
+}
+
+/// The text of counts of the lines.
+fn rows_of(
+    alloc: Global,
+    sorted: &[(Kmer, u64)],
+    lines: &Lines,
+    k: u32,
+    least: u64,
+) -> Result<Vec<u8>, NoMemory>
     requires k { IsKmerLength k }
     requires least { 1 ≤ least }
+    requires letters { All (λ line. IsTrue (are_letters line)) lines.now }
+    requires counts { AreCounts k lines.now sorted.now }
+    ensures text { IfOk result (λ text. text.items ≡ count_text k least lines.now) }
+{
+    let mut text = Vec::new(alloc);
+    push_rows(&mut text, sorted, k, least)?;
+    Ok(text)
+}
+
+/// The text of a count of the bytes over ranks, and its book.
+fn counted<H: Threads + Sync, G: Gate>(
+    rt: &H,
+    alloc: Global,
+    k: u32,
+    ranks: u32,
+    min: u64,
+    bytes: Vec<u8>,
+    gate: &G,
+) -> Result<Answered, Stop>
+    requires k { IsKmerLength k }
+    requires ranks { (1 ≤ ranks) × (ranks ≤ 64) }
+    requires least { min ≡ 1 }
     requires short { length bytes.items ≤ 2 ^ 26 }
-    ensures text { IfOk result (λ text. counted k least bytes.items ≡ Text text.items) }
-    ensures stop { IfErr result (Excuses (counted k least bytes.items)) }
+    ensures text { IfOk result (λ a. counted k min bytes.items ≡ Text a.text.items) }
+    ensures book { IfOk result (λ a. IsCountOf k ranks bytes.items a.book) }
+    ensures stop { IfErr result (Excuses (counted k min bytes.items)) }
 {
     let lines = Lines::cut(alloc, bytes)?;
-    check_letters(&lines, k)?;
-    Ok(count_text(alloc, &lines, k, least)?)
+    let windows = check_letters(&lines, k)?;
+    let plan = CountPlan {
+        k,
+        ranks,
+        min,
+        windows,
+    };
+    let counts = count(rt, alloc, &lines, &plan, gate)?;
+    let text = rows_of(alloc, &counts.sorted, &lines, k, min)?;
+    Ok(Answered {
+        text,
+        book: Book::Count(counts.closed),
+    })
 }
 
 /// The contigs of the bytes, one a line.
-fn walked(alloc: Global, k: u32, bytes: Vec<u8>) -> Result<Vec<u8>, Stop>
+fn walked(alloc: Global, k: u32, bytes: Vec<u8>) -> Result<Answered, Stop>
     requires k { IsKmerLength k }
     requires short { length bytes.items ≤ 2 ^ 26 }
-    ensures text { IfOk result (λ text. walked k bytes.items ≡ Text text.items) }
+    ensures text { IfOk result (λ a. walked k bytes.items ≡ Text a.text.items) }
+    ensures book { IfOk result (λ a. a.book ≡ Book.None) }
     ensures stop { IfErr result (Excuses (walked k bytes.items)) }
 {
     let lines = Lines::cut(alloc, bytes)?;
     check_nodes(&lines, k)?;
     let texts = plain_contigs(alloc, &lines, k)?;
-    Ok(text_of(alloc, &texts)?)
+    Ok(Answered {
+        text: text_of(alloc, &texts)?,
+        book: Book::None,
+    })
 }
 
-/// The text that the settings ask for of these bytes.
-pub(crate) fn answer(alloc: Global, settings: &Settings, bytes: Vec<u8>) -> Result<Vec<u8>, Stop>
+/// The text that the settings ask for of these bytes, and the book of its count.
+pub(crate) fn answer<H: Threads + Sync, G: Gate>(
+    rt: &H,
+    alloc: Global,
+    settings: &Settings,
+    bytes: Vec<u8>,
+    gate: &G,
+) -> Result<Answered, Stop>
     requires asked { IsAsked settings.now }
     requires short { length bytes.items ≤ 2 ^ 26 }
-    ensures text { IfOk result (λ text. verdict (Some settings.now) bytes.items ≡ Text text.items) }
+    ensures text { IfOk result (λ a. verdict (Some settings.now) bytes.items ≡ Text a.text.items) }
+    ensures book { IfOk result (λ a. IsBookOf settings.now bytes.items a.book) }
     ensures stop { IfErr result (Excuses (verdict (Some settings.now) bytes.items)) }
 {
     match *settings {
-        Settings::Count { k, min, .. } => counted(alloc, k, min, bytes),
+        Settings::Count { k, ranks, min, .. } => counted(rt, alloc, k, ranks, min, bytes, gate),
         Settings::Contigs { k, .. } => walked(alloc, k, bytes),
         Settings::Drill { .. } => unreachable!(),
     }

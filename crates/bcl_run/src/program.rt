@@ -1,6 +1,6 @@
 //! The whole program over its devices.
 
-ghost use Rattle.std.specs.Prelude.{◌≡◌, ◌≢◌, ℕ, ◌≤◌, ◌⊎◌, ◌↔◌, List, take, map, string_bytes, IfSome, Some, None, IsErrOf};
+ghost use Rattle.std.specs.Prelude.{◌≡◌, ◌≢◌, ℕ, ◌≤◌, ◌⊎◌, ◌↔◌, List, take, map, string_bytes, IfSome, IfOk, Some, None, IsErrOf};
 ghost use Rattle.std.specs.Io.KnownBytes.{Appends, IsAtEnd};
 ghost use Rattle.bcl_io.specs.Faults.{Rose};
 ghost use Rattle.bcl_settings.specs.Settings.{AsksFor, IsAsked, Reads};
@@ -9,71 +9,82 @@ ghost use Rattle.bcl_message.specs.declared.refusal.Refusal.{Refusal as AnyRefus
 ghost use Rattle.bcl_message.specs.declared.stop.Stop.TheVariants as stops;
 ghost use Rattle.bcl_message.specs.Stop.{status_of};
 ghost use Rattle.bcl_message.specs.Message.{refusal_message, usage_message, message_of, read_fault_message, write_fault_message, no_memory_message};
+ghost use Rattle.bcl_settings.specs.declared.settings.Settings.{Settings as AnySettings};
+ghost use Rattle.bcl_run.specs.Book.{IsBookOf};
 ghost use Rattle.bcl_run.specs.Owed.{Tells, Owed, WroteNothing, devices};
 
+use crate::Book;
 use crate::answer::{MAX_BYTES, answer};
 use bcl_io::{Sink, Source, read_all, write_all};
 use bcl_message::{Stop, tell};
+use bcl_phase::Gate;
 use bcl_settings::{Settings, settings_of};
 use std::alloc::Global;
+use std::marker::Sync;
 use std::thread::Threads;
 
-/// The book of the map that a run counted in. A run without a shared map has none.
-#[derive(Clone, Copy, Debug, PartialEq, Eq)]
-pub enum Book {
-    None,
-}
-
 /// How a run ended.
-#[derive(Clone, Copy, Debug, PartialEq, Eq)]
+#[derive(Drop)]
 pub struct Ended {
     /// 0 done, 1 input refused, 2 usage, 3 read fault, 4 write fault, 5 want of memory.
     pub status: u8,
     pub book: Book,
 }
 
-/// Reads the input and writes the text that the settings ask for. From the first write on no memory is taken.
-fn run<S: Source, O: Sink>(
+/// Reads the input and writes the text that the settings ask for, and answers the book. From the first write on no memory
+/// is taken.
+fn run<H: Threads + Sync, S: Source, O: Sink, G: Gate>(
+    rt: &H,
     alloc: Global,
     settings: &Settings,
     src: &mut S,
     out: &mut O,
-) -> Result<(), Stop>
+    gate: &G,
+) -> Result<Book, Stop>
     requires asked { IsAsked settings.now }
     ensures owed { (words : List (List ℕ)) → AsksFor words settings.now → Owed words (devices S.left S.faults O.taken O.faults src.old src.new out.old out.new) result }
+    ensures book { IfOk result (λ book. IfSome (S.left src.old) (λ bytes. IsBookOf settings.now bytes book)) }
     ensures no_usage { IsErrOf result stops.Usage → ⊥ }
     ensures untouched { WroteNothing result → out.new ≡ out.old }
 {
     let bytes = read_all(alloc, src, MAX_BYTES)?;
-    let text = answer(alloc, settings, bytes)?;
-    write_all(out, &text)?;
-    Ok(())
+    let answer = answer(rt, alloc, settings, bytes, gate)?;
+    write_all(out, &answer.text)?;
+    Ok(answer.book)
 }
 
-/// Says why a run has no text, and answers its status. A fault of `err` changes no status.
-fn told<E: Sink>(err: &mut E, stop: Stop) -> u8
-    ensures status { result ≡ status_of stop }
+/// Says why a run has no text, and how it ended. A fault of `err` changes no status.
+fn stopped<E: Sink>(err: &mut E, stop: Stop) -> Ended
+    ensures status { result.status ≡ status_of stop }
+    ensures no_book { result.book ≡ Book.None }
     ensures told { Tells (E.faults err.old) (E.faults err.new) (E.taken err.old) (E.taken err.new) (message_of stop) }
 {
     let _ = tell(err, stop);
-    stop.status()
+    Ended {
+        status: stop.status(),
+        book: Book::None,
+    }
 }
 
 /// Runs the program on the words behind its name.
 ///
-/// It reads `src` to its end, writes the text to `out`, and ends with a status. With a status other than 0 it writes a
-/// message to `err`. `rt` starts no thread yet.
-pub fn top<H: Threads + Sync, S: Source, O: Sink, E: Sink>(
+/// It reads `src` to its end, writes the text to `out`, and ends with a status and the book of its count. With a status
+/// other than 0 it writes a message to `err`, and there is no book. `rt` starts a thread for each rank of a count, and each
+/// rank passes `gate` as it enters a superstep.
+pub fn top<H: Threads + Sync, S: Source, O: Sink, E: Sink, G: Gate>(
     rt: &H,
     alloc: Global,
     words: &[String],
     src: &mut S,
     out: &mut O,
     err: &mut E,
+    gate: &G,
 ) -> Ended
     // Status 0: the source was read to its end, and the sink took just the text of the verdict.
     ensures text { result.status ≡ 0 → IfSome (S.left src.old) (λ bytes.
         (text : List ℕ) × IsVerdict (map string_bytes words.now) bytes (Text text) × Appends (O.taken out.old) (O.taken out.new) text) }
+    ensures book { result.status ≡ 0 → IfSome (S.left src.old) (λ bytes.
+        (settings : AnySettings) × Reads (map string_bytes words.now) (Some settings) × IsBookOf settings bytes result.book) }
     ensures read_whole { result.status ≡ 0 → IsAtEnd (S.left src.new) × (S.faults src.new ≡ S.faults src.old) }
 
     // Status 1: the source was read with no fault, and what it had left is refused.
@@ -93,6 +104,7 @@ pub fn top<H: Threads + Sync, S: Source, O: Sink, E: Sink>(
 
     // The statuses without a text leave its sink as it was, and no status is above 5.
     ensures untouched { result.status ≢ 0 → result.status ≢ 4 → out.new ≡ out.old }
+    ensures no_book { result.status ≢ 0 → result.book ≡ Book.None }
     ensures known { result.status ≤ 5 }
 
     // With status 0 nothing is said, and with each other status its message, where the faults of the sink for it didn't rise.
@@ -116,16 +128,12 @@ pub fn top<H: Threads + Sync, S: Source, O: Sink, E: Sink>(
     ensures refuses { (bytes : List ℕ) (why : AnyRefusal) → S.left src.old ≡ Some bytes → IsVerdict (map string_bytes words.now) bytes (Refused why)
         → (Rose (S.faults src.old) (S.faults src.new) → ⊥) → (result.status ≡ 1) ⊎ (result.status ≡ 5) }
 {
-    let status = match settings_of(words) {
+    match settings_of(words) {
         // Neither the words nor the usage get an allocator, so this status takes no memory.
-        None => told(err, Stop::Usage),
-        Some(settings) => match run(alloc, &settings, src, out) {
-            Ok(()) => 0,
-            Err(stop) => told(err, stop),
+        None => stopped(err, Stop::Usage),
+        Some(settings) => match run(rt, alloc, &settings, src, out, gate) {
+            Ok(book) => Ended { status: 0, book },
+            Err(stop) => stopped(err, stop),
         },
-    };
-    Ended {
-        status,
-        book: Book::None,
     }
 }

@@ -1,10 +1,13 @@
 //! The whole program over devices in memory.
 
+mod ranks;
+
 use crate::{Book, top};
 use bcl_io::{MemSink, MemSource};
+use bcl_phase::{Always, Gate};
 use bcl_words::NoMemory;
 use std::alloc::Global;
-use std::process::Abort;
+use std::marker::Sync;
 use std::test::Fail;
 use std::thread::Threads;
 
@@ -30,6 +33,7 @@ struct Outcome {
     status: u8,
     written: Vec<u8>,
     said: Vec<u8>,
+    book: Book,
 }
 
 fn words_of(alloc: Global, line: &str) -> Result<Vec<String>, Fail> {
@@ -41,11 +45,22 @@ fn words_of(alloc: Global, line: &str) -> Result<Vec<String>, Fail> {
 }
 
 /// Runs the program on the words of a line.
-fn ran<R: Threads + Sync + Abort + AllocGlobal>(
+fn ran<R: Threads + Sync + AllocGlobal>(
     rt: &R,
     line: &str,
     input: &[u8],
     faults: Faults,
+) -> Result<Outcome, Fail> {
+    ran_past(rt, line, input, faults, &Always)
+}
+
+/// Runs the program on the words of a line, where each rank passes a gate.
+fn ran_past<R: Threads + Sync + AllocGlobal, G: Gate>(
+    rt: &R,
+    line: &str,
+    input: &[u8],
+    faults: Faults,
+    gate: &G,
 ) -> Result<Outcome, Fail> {
     let alloc = rt.alloc();
     let piece = faults.piece.max(1);
@@ -53,15 +68,15 @@ fn ran<R: Threads + Sync + Abort + AllocGlobal>(
     let mut src = MemSource::new(input.to_vec(alloc)?, piece, faults.reads.to_vec(alloc)?);
     let mut out = MemSink::new(alloc, 1000, piece, faults.writes.to_vec(alloc)?)?;
     let mut err = MemSink::new(alloc, 1000, piece, faults.says.to_vec(alloc)?)?;
-    let ended = top(rt, alloc, &words, &mut src, &mut out, &mut err);
+    let ended = top(rt, alloc, &words, &mut src, &mut out, &mut err, gate);
     if ended.status == 5 {
         return Err(NoMemory.into());
     }
-    assert_eq!(rt; ended.book, Book::None);
     Ok(Outcome {
         status: ended.status,
         written: out.taken().to_vec(alloc)?,
         said: err.taken().to_vec(alloc)?,
+        book: ended.book,
     })
 }
 
@@ -83,6 +98,9 @@ fn kmers_are_counted_in_byte_order(rt: HostRuntime) -> Result<(), Fail> {
         ("count 3", b"ACG\r\nACG", b"ACG\t2\n"),
         ("count 1", b"TACGT\n", b"A\t1\nC\t1\nG\t1\nT\t2\n"),
         ("count 31", SAMPLE, b""),
+        ("count 3 --ranks 1", SAMPLE, SAMPLE_TEXT),
+        ("count 3 --ranks 2", SAMPLE, SAMPLE_TEXT),
+        ("count 3 --ranks 64", SAMPLE, SAMPLE_TEXT),
     ];
     for (line, input, text) in cases {
         let ran = ran(&rt, line, input, NO_FAULTS)?;

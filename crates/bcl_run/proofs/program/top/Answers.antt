@@ -16,7 +16,7 @@ returns-in-Err-clause-refused g c is =
     let S = g.S.Source in
     let O = g.O.Sink in
     let d = devices S.left S.faults O.taken O.faults c.args.src.now c.run.new.src c.args.out.now c.run.new.out in
-    status_refused (map string_bytes c.args.words.now) d c.in-Err.stop (c.in-Err.ensures.owed (map string_bytes c.args.words.now) c.in-Some.ensures) (sym c.told.ensures.status ∙ is)
+    status_refused (map string_bytes c.args.words.now) d c.in-Err.stop (c.in-Err.ensures.owed (map string_bytes c.args.words.now) c.in-Some.ensures) (sym c.stopped-in-Err.ensures.status ∙ is)
 
 pub returns-in-Err-clause-complete : goal.returns-in-Err-clause-complete
 returns-in-Err-clause-complete g c bytes text told verdict no_fault no_write =
@@ -24,7 +24,7 @@ returns-in-Err-clause-complete g c bytes text told verdict no_fault no_write =
     let O = g.O.Sink in
     let d = devices S.left S.faults O.taken O.faults c.args.src.now c.run.new.src c.args.out.now c.run.new.out in
     let P : ℕ → Type 0 = λ status. (status ≡ 0) ⊎ (status ≡ 5) in
-    subst P (sym c.told.ensures.status) (completes (map string_bytes c.args.words.now) d bytes told no_fault c.in-Err.stop text (c.in-Err.ensures.owed (map string_bytes c.args.words.now) c.in-Some.ensures) verdict no_write)
+    subst P (sym c.stopped-in-Err.ensures.status) (completes (map string_bytes c.args.words.now) d bytes told no_fault c.in-Err.stop text (c.in-Err.ensures.owed (map string_bytes c.args.words.now) c.in-Some.ensures) verdict no_write)
 
 pub returns-in-Err-clause-refuses : goal.returns-in-Err-clause-refuses
 returns-in-Err-clause-refuses g c bytes why told verdict no_fault =
@@ -32,7 +32,7 @@ returns-in-Err-clause-refuses g c bytes why told verdict no_fault =
     let O = g.O.Sink in
     let d = devices S.left S.faults O.taken O.faults c.args.src.now c.run.new.src c.args.out.now c.run.new.out in
     let P : ℕ → Type 0 = λ status. (status ≡ 1) ⊎ (status ≡ 5) in
-    subst P (sym c.told.ensures.status) (refuses_it (map string_bytes c.args.words.now) d bytes told no_fault c.in-Err.stop why (c.in-Err.ensures.owed (map string_bytes c.args.words.now) c.in-Some.ensures) verdict)
+    subst P (sym c.stopped-in-Err.ensures.status) (refuses_it (map string_bytes c.args.words.now) d bytes told no_fault c.in-Err.stop why (c.in-Err.ensures.owed (map string_bytes c.args.words.now) c.in-Some.ensures) verdict)
 
 pub returns-in-Err-clause-refusal_told : goal.returns-in-Err-clause-refusal_told
 returns-in-Err-clause-refusal_told g c is =
@@ -40,7 +40,7 @@ returns-in-Err-clause-refusal_told g c is =
     let O = g.O.Sink in
     let E = g.E.Sink in
     let err = c.args.err.now in
-    let err' = c.told.new.err in
+    let err' = c.stopped-in-Err.new.err in
     let d = devices S.left S.faults O.taken O.faults c.args.src.now c.run.new.src c.args.out.now c.run.new.out in
     refusal_told (E.faults err) (E.faults err') (E.taken err) (E.taken err') (map string_bytes c.args.words.now) d c.in-Err.stop (c.in-Err.ensures.owed (map string_bytes c.args.words.now) c.in-Some.ensures)
-    (sym c.told.ensures.status ∙ is) c.told.ensures.told
+    (sym c.stopped-in-Err.ensures.status ∙ is) c.stopped-in-Err.ensures.told

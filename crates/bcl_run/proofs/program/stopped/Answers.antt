@@ -1,6 +1,6 @@
 use Rattle.bcl_message.specs.Message.{message_of}
 use Rattle.bcl_run.proofs.Told.{tells}
-use Rattle.bcl_run.proofs.program.told.Goals as goal
+use Rattle.bcl_run.proofs.program.stopped.Goals as goal
 
 pub returns-clause-told : goal.returns-clause-told
 returns-clause-told g c =
