@@ -25,7 +25,7 @@ use Rattle.kmer_text.specs.Kmers.{number_of}
 use Rattle.kmer_text.specs.Windows.{all_windows, total}
 use Rattle.kmer_rows.specs.Counts.{times, noted}
 use Rattle.kmer_count.specs.Book.{shape_of, one_more, IsAtHome, CountBook}
-use Rattle.kmer_count.proofs.Raised.{times-le-length}
+use Rattle.kmer_count.proofs.Times.{times-le-length}
 use Rattle.kmer_count.proofs.Rooms.{room, home_low}
 use Rattle.kmer_count.proofs.Merges.{call_of, those_at, merges_of_all, keys_are_few, each_is}
 

@@ -1,4 +1,4 @@
-pub mod Raised
+pub mod Times
 pub mod Rooms
 pub mod Merges
 pub mod Books
