@@ -1,27 +1,32 @@
 //! The count over ranks that share a map.
 
-ghost use Rattle.std.specs.Prelude.{◌≡◌, ◌≤◌, ◌+◌, ◌*◌, ◌^◌, All, IsTrue, IfOk, Some, None};
+ghost use Rattle.std.specs.Prelude.{◌≡◌, ◌≤◌, ◌+◌, ◌*◌, ◌^◌, [], length, All, IsTrue, IfOk, Some, None};
 ghost use Rattle.std.specs.List.Sorted.{IsPermutation, IsNonDecreasingBy};
 ghost use Rattle.kmer_text.specs.Kmers.{IsKmerLength};
 ghost use Rattle.kmer_text.specs.Letters.{are_letters};
 ghost use Rattle.kmer_text.specs.Windows.{total};
-ghost use Rattle.bcl_map.specs.Parts.{closed_view};
+ghost use Rattle.bcl_segment.specs.Places.{places};
+ghost use Rattle.bcl_phase.specs.Deals.{BeginsAt};
+ghost use Rattle.bcl_map.specs.Map.{owning};
+ghost use Rattle.bcl_map.specs.Parts.{lead_key, closed_view};
+ghost use Rattle.bcl_buffer.specs.Drains.{shape_in};
 ghost use Rattle.kmer_rows.specs.Counts.{AreCounts};
 ghost use Rattle.kmer_count.specs.Book.{buckets, shape_of, CountBook};
+ghost use Rattle.kmer_count.specs.Fills.{AreFilled};
 
 use crate::filling::fill;
 use crate::phase::{begun, closed};
 use bcl_bloom::FilterHome;
-use bcl_buffer::flush;
-use bcl_map::ClosedMap;
+use bcl_buffer::{Buffer, flush};
+use bcl_map::{ClosedMap, MapLead, MapPass};
 use bcl_merge::{Merger, Sum, wrapping_sum};
-use bcl_phase::Gate;
+use bcl_phase::{Gate, Own};
 use bcl_segment::Layout;
 use bcl_words::NoMemory;
 use kmer_text::{Kmer, Lines};
 use std::alloc::Global;
 use std::marker::Sync;
-use std::thread::Threads;
+use std::thread::{Threads, join};
 
 /// What a count is to do: the letters of a k-mer, the ranks, the least count of a k-mer that is answered, and how many
 /// windows the lines have.
@@ -53,6 +58,49 @@ fn buckets_of(ranks: u32, windows: u64) -> u32
     ((2 * windows as u32 + (ranks - 1)) / ranks).max(1)
 }
 
+// Buffers that are filled, and the lead and the passes of an empty map in a phase under Own.
+type Prepared = (
+    Vec<Buffer<Kmer, u64>>,
+    MapLead<Kmer, u64, Sum>,
+    Vec<MapPass<Own, Kmer, u64, Sum>>,
+);
+
+// The buffers that the ranks fill, and a map that is made meanwhile.
+fn fill_and_begin<H: Threads + Sync, G: Gate>(
+    rt: &H,
+    alloc: Global,
+    lines: &Lines,
+    k: u32,
+    shape: Layout,
+    gate: &G,
+) -> Result<Prepared, NoMemory>
+    requires k { IsKmerLength k }
+    requires letters { All (λ line. IsTrue (are_letters line)) lines.now }
+    requires ranks { (1 ≤ shape.ranks) × (shape.ranks ≤ 64) }
+    requires buckets { 1 ≤ shape.per_rank }
+    requires words { shape.ranks * shape.per_rank * 3 ≤ 2 ^ 27 }
+    requires places { (1 ≤ places shape) × (places shape ≤ 2 ^ 27) }
+    ensures filled { IfOk result (λ r. AreFilled k shape lines.now r.0.items) }
+    ensures shape { IfOk result (λ r. lead_key r.1 ≡ shape_in 1 shape) }
+    ensures count { IfOk result (λ r. length r.2.items ≡ shape.ranks) }
+    ensures begins { IfOk result (λ r. BeginsAt (λ p. p.pass) owning [] r.1.lead r.2.items) }
+{
+    let (filled, begun) = join(
+        rt,
+        ||
+            requires { IsKmerLength k × All (λ line. IsTrue (are_letters line)) lines.now × (1 ≤ shape.ranks) × (1 ≤ places shape) × (places shape ≤ 2 ^ 27) }
+            ensures { IfOk result (λ v. AreFilled k shape lines.entry.now v.items) }
+        { fill(rt, alloc, lines, k, shape, gate) },
+        ||
+            requires { (1 ≤ shape.ranks) × (shape.ranks ≤ 64) × (1 ≤ shape.per_rank) × (shape.ranks * shape.per_rank * 3 ≤ 2 ^ 27) }
+            ensures { IfOk result (λ r. (lead_key r.0 ≡ shape_in 1 shape) × (length r.1.items ≡ shape.ranks) × BeginsAt (λ p. p.pass) owning [] r.0.lead r.1.items) }
+        { begun::<Kmer, u64, Sum>(alloc, shape) },
+    );
+    let buffers = filled?;
+    let (lead, passes) = begun?;
+    Ok((buffers, lead, passes))
+}
+
 // The map of the k-mers of the lines, each merged by the rank of its home.
 fn map_of<H: Threads + Sync, G: Gate>(
     rt: &H,
@@ -72,8 +120,7 @@ fn map_of<H: Threads + Sync, G: Gate>(
         ranks: plan.ranks,
         per_rank: buckets_of(plan.ranks, plan.windows),
     };
-    let buffers = fill(rt, alloc, lines, plan.k, shape, gate)?;
-    let (lead, passes) = begun::<Kmer, u64, Sum>(alloc, shape)?;
+    let (buffers, lead, passes) = fill_and_begin(rt, alloc, lines, plan.k, shape, gate)?;
     let sum = Merger::new(|a: u64, b: u64| wrapping_sum(a, b));
     let (passes, _) = flush(rt, alloc, &lead, passes, buffers, &sum, gate)?;
     closed(alloc, lead, passes)

@@ -24,15 +24,15 @@ returns-clause-book g c =
     let per : c.buckets_of.result ≡ buckets n (total k lines) = c.buckets_of.ensures.buckets ∙ ap (buckets n) c.requires.windows.0 in
     let buffers = c.in_ok-buffers.buffers.items in
     let filled : AreFilled k (record { ranks = n; per_rank = buckets n (total k lines) }) lines buffers = subst (λ (m : ℕ). AreFilled k (record { ranks = n; per_rank = m }) lines buffers) per c.in_ok-buffers.ensures.filled in
-    let key : lead_key c.in_ok-lead.lead ≡ shape_of n (total k lines) = c.in_ok-lead.ensures.shape ∙ (λ j. record { ranks = n; per_rank = per j; width = 1 }) in
-    let begins = c.in_ok-lead.ensures.begins in
-    let count = c.in_ok-lead.ensures.count in
+    let key : lead_key c.in_ok-buffers.lead ≡ shape_of n (total k lines) = c.in_ok-buffers.ensures.shape ∙ (λ j. record { ranks = n; per_rank = per j; width = 1 }) in
+    let begins = c.in_ok-buffers.ensures.begins in
+    let count = c.in_ok-buffers.ensures.count in
     let before = begins.all.count in let after = c.in_ok-passes.ensures.all.count in
     if_ok c.closed.result _ _ c.closed.ensures.ends (λ map ends.
     book_of_phase k n lines some (closed_view map).seen
     (subst (λ (z : Shape × MapHistory). Ended ranks_of first_pairs (next sum_of) permits z.0 owning z.1 (closed_view map).seen) (λ j. (key j, begins.start j)) ends.ended)
     (λ r low.
-    let old = there c.in_ok-lead.passes.items r (omega arith) in
+    let old = there c.in_ok-buffers.passes.items r (omega arith) in
     let new = there c.in_ok-passes.passes.items r (omega arith) in
     own_of k lines n some buffers filled r (pass_view old.0) (pass_view new.0) (closed_view map).seen
     (ap (λ (v : MapView). v.mine) (begins.begun r old.0 old.1))
