@@ -5,3 +5,7 @@ pub mod Sides
 pub mod Flushed
 pub mod Filled
 pub mod Emptied
+pub mod Dealt
+pub mod Columns
+pub mod Homes
+pub mod Shares

@@ -57,8 +57,9 @@ module _ {K V : Type 0} (key : K → Words) (value : V → Words) (op : Words �
   drains_goes old new u v drained_all d = d.0.ran.same
   drains_goes old new u v (drained_full p) d = goes_on_trans u d.0.between v d.0.merged.ran.same d.0.refused.same
 
-pub one_more : {P : Type 0} (p : P) (all done left rest : List P) → all ≡ done ++ left → left ≡ p ∷ rest → all ≡ (done ++ p ∷ []) ++ rest
-one_more {P} p all done left rest e f = e ∙ (ap (λ (l : List P). done ++ l) f ∙ sym (append_assoc done (p ∷ []) rest))
+-- more of the pairs were taken from the front
+pub more_taken : {P : Type 0} (all done left more rest : List P) → all ≡ done ++ left → left ≡ more ++ rest → all ≡ (done ++ more) ++ rest
+more_taken {P} all done left more rest e f = e ∙ (ap (λ (l : List P). done ++ l) f ∙ sym (append_assoc done more rest))
 
 pub mine_kept : (u v : MapView) (k : Words) → GoesOn u v → IsMine u k → IsMine v k
 mine_kept u v k on m = record { shape = m.shape; of = on.same_key ∙ m.of; own = m.own ∙ sym on.same_rank }

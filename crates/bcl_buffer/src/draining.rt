@@ -1,15 +1,16 @@
 //! The pairs of a buffer, merged into a map by the rank of their home.
 
-ghost use Rattle.std.specs.Prelude.{◌≡◌, All};
+ghost use Rattle.std.specs.Prelude.{◌≡◌, ◌≤◌, All, length, min};
 ghost use Rattle.bcl_words.specs.Merges.{AnswersLaw};
 ghost use Rattle.bcl_map.specs.Calls.{IsMine};
 ghost use Rattle.bcl_map.specs.Parts.{lead_key, pass_view, IsOf};
 ghost use Rattle.bcl_buffer.specs.declared.buffer.State.TheVariants.{Exchanged};
 ghost use Rattle.bcl_buffer.specs.Drains.{IsFor, DrainsLane, Drains};
+ghost use Rattle.bcl_buffer.specs.Batches.{AreStarts, DrainsFront};
 
 use crate::buffer::{Buffer, State};
 use crate::lane::Lane;
-use bcl_map::{Inserted, MapLead, MapPass};
+use bcl_map::{Inserted, MapLead, MapPass, Start};
 use bcl_merge::Merger;
 use bcl_phase::Own;
 use bcl_words::{MergeLaw, Object, Pair};
@@ -22,6 +23,56 @@ pub enum Drained<K, V> {
     All,
     /// There was no bucket for this pair. It was taken out, and those behind it stay.
     Full(Pair<K, V>),
+}
+
+// Of how many pairs the buckets are brought near before the first of them is merged.
+const BATCH: usize = 64;
+
+// Where the paths of the first pairs of a lane begin, of a batch of them or fewer. Their buckets are brought near.
+fn starts_of<K: Object, V: Object, L: MergeLaw<V>>(
+    lane: &Lane<Pair<K, V>>,
+    lead: &MapLead<K, V, L>,
+    pass: &MapPass<Own, K, V, L>,
+    starts: &mut [Start; BATCH],
+) -> usize
+    requires of { IsOf pass.now lead.now }
+    ensures count { result ≡ min 64 (length lane.now) }
+    ensures starts { AreStarts K.words (lead_key lead.now) result lane.now starts.new }
+{
+    let pairs = lane.front(BATCH);
+    let count = pairs.len();
+    for j in 0..count {
+        starts[j] = pass.start(lead, &pairs[j].a);
+    }
+    count
+}
+
+// Merges the first pairs of a lane in their order, so many, whose paths begin at these starts.
+fn drain_batch<K: Object, V: Object, L: MergeLaw<V>, F: Fn(V, V) -> V + Sync>(
+    lane: &mut Lane<Pair<K, V>>,
+    lead: &MapLead<K, V, L>,
+    pass: &mut MapPass<Own, K, V, L>,
+    merger: &Merger<V, L, F>,
+    starts: &[Start; BATCH],
+    count: usize,
+) -> Drained<K, V>
+    requires answers { AnswersLaw V.passes V.words L.op (F.pre merger.now) (F.post merger.now) }
+    requires of { IsOf pass.old lead.now }
+    requires mine { All (λ p. IsMine (pass_view pass.old) (K.words p.a)) lane.old }
+    requires count { (count ≤ length lane.old) × (count ≤ 64) }
+    requires starts { AreStarts K.words (lead_key lead.now) count lane.old starts.now }
+    ensures drains { DrainsFront K.words V.words L.op (lead_key lead.now) count lane.old lane.new (pass_view pass.old) (pass_view pass.new) result }
+    ensures of { IsOf pass.new lead.now }
+{
+    for j in 0..count {
+        let Some(pair) = lane.take() else {
+            unreachable!()
+        };
+        if pass.merge_from(lead, starts[j], &pair.a, &pair.b, merger) == Inserted::Full {
+            return Drained::Full(pair);
+        }
+    }
+    Drained::All
 }
 
 // Merges the pairs of a lane in their order.
@@ -37,8 +88,10 @@ fn drain_lane<K: Object, V: Object, L: MergeLaw<V>, F: Fn(V, V) -> V + Sync>(
     ensures drains { DrainsLane K.words V.words L.op (lead_key lead.now) lane.old lane.new (pass_view pass.old) (pass_view pass.new) result }
     ensures of { IsOf pass.new lead.now }
 {
-    while let Some(pair) = lane.take() {
-        if pass.merge(lead, &pair.a, &pair.b, merger) == Inserted::Full {
+    let mut starts = [Start { place: 0, home: 0 }; BATCH];
+    while lane.left() > 0 {
+        let count = starts_of(lane, lead, pass, &mut starts);
+        if let Drained::Full(pair) = drain_batch(lane, lead, pass, merger, &starts, count) {
             return Drained::Full(pair);
         }
     }

@@ -1,6 +1,6 @@
 //! Items in their order, taken from the front.
 
-ghost use Rattle.std.specs.Prelude.{◌≡◌, ◌++◌, [], ◌∷◌, OnOk, OnErr, length};
+ghost use Rattle.std.specs.Prelude.{◌≡◌, ◌++◌, [], ◌∷◌, OnOk, OnErr, length, take};
 ghost use Rattle.bcl_buffer.specs.Lanes.{Takes};
 
 use bcl_words::NoMemory;
@@ -50,6 +50,14 @@ impl<T: Copy> Lane<T> {
         let item = *self.items.as_slice().get(self.from)?;
         self.from += 1;
         Some(item)
+    }
+
+    /// The first items that are left, at most so many.
+    pub(crate) fn front(&self, most: usize) -> &[T]
+        ensures { result.now ≡ take most self.now }
+    {
+        let left = &self.items.as_slice()[self.from..];
+        &left[..left.len().min(most)]
     }
 
     pub(crate) fn left(&self) -> usize

@@ -11,7 +11,7 @@ ghost use Rattle.bcl_buffer.specs.declared.buffer.State.TheVariants.{Filling};
 ghost use Rattle.bcl_buffer.specs.Drains.{shape_in};
 
 use crate::{Buffer, flush};
-use bcl_map::{ClosedMap, MapHome, MapLead, MapPass};
+use bcl_map::{ClosedMap, MapHome, begun, closed};
 use bcl_merge::{Merger, Sum, wrapping_sum};
 use bcl_phase::{Always, Kit, Own, superstep_all};
 use bcl_segment::Layout;
@@ -96,31 +96,6 @@ fn buffers_of(alloc: Global, kits: Vec<Reader>) -> Result<Vec<Buffer<Bytes16, u6
     Ok(buffers)
 }
 
-// An empty map of this shape, in a phase under Own.
-pub(crate) fn begun<K: Object, V: Object, L: MergeLaw<V>>(
-    alloc: Global,
-    shape: Layout,
-) -> Result<(MapLead<K, V, L>, Vec<MapPass<Own, K, V, L>>), NoMemory>
-    requires key { Fits K.WORDS }
-    requires value { Fits V.WORDS }
-    requires ranks { (1 ≤ shape.ranks) × (shape.ranks ≤ 64) }
-    requires buckets { 1 ≤ shape.per_rank }
-    requires words { shape.ranks * shape.per_rank * (1 + (K.WORDS + V.WORDS)) ≤ 2 ^ 27 }
-    ensures all { IfOk result (λ r. AreAll (λ p. p.pass) r.0.lead r.1.items) }
-    ensures shape { IfOk result (λ r. lead_key r.0 ≡ shape_in K.WORDS shape) }
-    ensures count { IfOk result (λ r. length r.1.items ≡ shape.ranks) }
-{
-    let home = MapHome::<K, V, L>::new(alloc, shape.ranks, shape.per_rank)?;
-    Ok(home.begin::<Own>(alloc)?)
-}
-
-pub(crate) fn closed<K: Object, V: Object, L: MergeLaw<V>>(
-    alloc: Global,
-    home: MapHome<K, V, L>,
-) -> Result<ClosedMap<K, V, L>, NoMemory> {
-    Ok(home.close(alloc)?)
-}
-
 // The words of four lists, each with how often it stands in them.
 fn count_words<H: Threads + Sync>(
     rt: &H,
@@ -139,7 +114,8 @@ fn count_words<H: Threads + Sync>(
     let buffers = buffers_of(alloc, kits)?;
 
     // Each word is merged by the rank of its home, whichever rank has read it.
-    let (lead, passes) = begun(alloc, shape)?;
+    let home = MapHome::new(alloc, shape.ranks, shape.per_rank)?;
+    let (lead, passes) = begun(alloc, home)?;
     let sum = Merger::new(|a: u64, b: u64| wrapping_sum(a, b));
     let (passes, _) = flush(rt, alloc, &lead, passes, buffers, &sum, &Always)?;
 

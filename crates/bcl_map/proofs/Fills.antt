@@ -2,7 +2,6 @@
 use Rattle.std.proofs.Common.{◌≡◌, ℕ, zero, suc, ◌+◌, ◌*◌, List, [], ◌∷◌, length, replicate, get_or, slice_index, refl, sym, ap, ◌∙◌, subst, arith, Some, None}
 use Rattle.std.proofs.Math.Nat.{mul_assoc, mul_comm}
 use Rattle.std.specs.Prelude.{Bool}
-use Rattle.std.specs.List.{repeat}
 use Rattle.std.proofs.lemmas.List.{length-replicate}
 use mathlib.Core.Option.{some-ne-none}
 use Rattle.bcl_map.specs.declared.shape.Shape.{Shape}
@@ -19,17 +18,10 @@ all_free zero i = refl
 all_free (suc n) zero = refl
 all_free (suc n) (suc i) = all_free n i
 
-zeros : (n i : ℕ) → slice_index (repeat n (0 ∷ [])) i ≡ 0
+zeros : (n i : ℕ) → slice_index (replicate n 0) i ≡ 0
 zeros zero i = refl
 zeros (suc n) zero = refl
 zeros (suc n) (suc i) = zeros n i
-
-abbrev zero_word : List ℕ
-zero_word = 0 ∷ []
-
-many_words : (n : ℕ) → length (repeat n zero_word) ≡ n
-many_words zero = refl
-many_words (suc n) = ap suc (many_words n)
 
 -- the words of all segments
 pub many : (ranks per_rank a b kw vw : ℕ) → a ≡ kw → b ≡ vw → ranks * (per_rank * (1 + (a + b))) ≡ size kw vw * (ranks * per_rank)
@@ -39,12 +31,12 @@ many ranks per_rank a b kw vw key value = ap (λ (z : ℕ × ℕ). ranks * (per_
 none_there : (k v : Words) → None ≡ Some v → ⊥
 none_there k v e = cc
 
-pub empty : (kw vw : ℕ) (key value : List ℕ → Bool) (L : Shape) (n : ℕ) (words : List ℕ) → words ≡ repeat n (0 ∷ []) → n ≡ size kw vw * places L → Holds kw vw key value L 0 words [] []
+pub empty : (kw vw : ℕ) (key value : List ℕ → Bool) (L : Shape) (n : ℕ) (words : List ℕ) → words ≡ replicate n 0 → n ≡ size kw vw * places L → Holds kw vw key value L 0 words [] []
 empty kw vw key value L n words is many = record {
   places = record {
     cells = replicate (places L) free;
     room = length-replicate (places L) free;
-    wide = ap length is ∙ (many_words n ∙ many);
+    wide = ap length is ∙ (length-replicate n 0 ∙ many);
     few = omega arith;
     as_many = none_filled (places L);
     each = λ i below. subst (Place i) (sym (all_free (places L) i)) (record { shows = ap (λ (l : List ℕ). slice_index l (size kw vw * i + 0)) is ∙ zeros n (size kw vw * i + 0); read = refl; content = tt });

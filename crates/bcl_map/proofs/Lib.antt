@@ -20,3 +20,4 @@ pub mod Walks
 pub mod Seated
 pub mod Quiet
 pub mod Readings
+pub mod Roomy

@@ -77,7 +77,7 @@ module _ (kw vw heads : ℕ) (layout : Layout) (L : Shape) (shaped : IsShaped kw
 
 -- along the path of a key
 module _ (kw vw heads : ℕ) (layout : Layout) (L : Shape) (shaped : IsShaped kw vw heads layout L) (k : Words) where
-  begins_low : begins_at L k < places L
+  pub begins_low : begins_at L k < places L
   begins_low = mod-lt _ (some_places kw vw heads layout L shaped)
 
   pub along : (d at : ℕ) → IsBucketAt (size kw vw) layout at (path L k d) → IsBucketAt (size kw vw) layout (after at (segment.places layout) (size kw vw)) (path L k (suc d))
@@ -86,6 +86,13 @@ module _ (kw vw heads : ℕ) (layout : Layout) (L : Shape) (shaped : IsShaped kw
       on : (path L k d + 1) % places L ≡ path L k (suc d)
       on = mod-add-mod (begins_at L k + d) (places L) 1 ∙ ap (λ (n : ℕ). n % places L) (let s : begins_at L k + d + 1 ≡ begins_at L k + suc d = omega arith in s)
 
+  -- the bucket where it begins
+  pub first_at : (at : ℕ) → at ≡ begins_at L k * size kw vw → IsBucketAt (size kw vw) layout at (path L k 0)
+  first_at at is = subst (IsBucketAt (size kw vw) layout at) cut (bucket_at kw vw heads layout L shaped (begins_at L k) at begins_low is)
+    where
+      cut : begins_at L k ≡ (begins_at L k + 0) % places L
+      cut = let s : begins_at L k ≡ begins_at L k + 0 = omega arith in s ∙ sym (mod-eq_of_lt (let l : begins_at L k < places L = begins_low in omega arith))
+
   -- where the path begins, as the code computes it
   module _ (buckets : Layout) (is : buckets ≡ record { ranks = L.ranks; per_rank = L.per_rank }) where
     pub begins_by : start_of kw k (segment.places buckets) ≡ begins_at L k
@@ -93,9 +100,3 @@ module _ (kw vw heads : ℕ) (layout : Layout) (L : Shape) (shaped : IsShaped kw
 
     pub home_by : (found : ℕ) → found ≡ start_of kw k (segment.places buckets) / buckets.per_rank → found ≡ home L k
     home_by found e = e ∙ (λ i. begins_by i / (is i).per_rank)
-
-    pub first_by : (first at : ℕ) → first ≡ start_of kw k (segment.places buckets) → at ≡ first * size kw vw → IsBucketAt (size kw vw) layout at (path L k 0)
-    first_by first at starts is_at = subst (IsBucketAt (size kw vw) layout at) cut (bucket_at kw vw heads layout L shaped (begins_at L k) at begins_low (is_at ∙ ap (λ (n : ℕ). n * size kw vw) (starts ∙ begins_by)))
-      where
-        cut : begins_at L k ≡ (begins_at L k + 0) % places L
-        cut = let s : begins_at L k ≡ begins_at L k + 0 = omega arith in s ∙ sym (mod-eq_of_lt (let l : begins_at L k < places L = begins_low in omega arith))

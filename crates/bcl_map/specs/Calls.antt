@@ -9,7 +9,8 @@ use Rattle.bcl_event.specs.declared.map.MapReply.TheVariants.{Value, Absent}
 use Rattle.bcl_phase.specs.declared.view.View.{View}
 use Rattle.bcl_phase.specs.Stands as phase
 use Rattle.bcl_map.specs.declared.shape.Shape.{Shape}
-use Rattle.bcl_map.specs.Map.{Words, home, ranks, first_pairs, next, permits, IsShaped}
+use Rattle.bcl_map.specs.declared.walk.Start.{Start}
+use Rattle.bcl_map.specs.Map.{Words, begins_at, home, ranks, first_pairs, next, permits, IsShaped}
 use Rattle.bcl_map.specs.Notes.{Note}
 
 -- what a pass knows of a map
@@ -34,6 +35,10 @@ IsSeated kw vw key layout = (key ≡ None → ⊥) × ((shape : Shape) → key �
 pub record IsBucketAt (words : ℕ) (layout : Layout) (at place : ℕ) : Type 0 where
   pub first : at ≡ words * place
   pub room : at + words ≤ segment.places layout
+
+-- where the path of a key begins
+abbrev pub start_at : Shape → Words → Start
+start_at shape key = record { place = begins_at shape key; home = home shape key }
 
 -- the bucket of so many words after one: after the last comes the first
 abbrev pub after : ℕ → ℕ → ℕ → ℕ

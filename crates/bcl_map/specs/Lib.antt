@@ -15,3 +15,4 @@ pub mod Costs
 pub mod Reaches
 pub mod Looks
 pub mod Closed
+pub mod Room

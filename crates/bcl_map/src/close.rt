@@ -4,7 +4,6 @@ ghost use Rattle.std.specs.Prelude.{◌≡◌, Some, IfOk, IfErr};
 ghost use Rattle.bcl_phase.specs.Parts.{closed_view};
 ghost use Rattle.bcl_map.specs.Closed.{in_words, IsReplay, IsOnce};
 
-use crate::count::count_pairs;
 use crate::home::MapHome;
 use crate::map::Map;
 use crate::pairs::list_pairs;
@@ -26,22 +25,21 @@ impl<K: Object, V: Object, L: MergeLaw<V>> MapHome<K, V, L> {
 
     /// Closes the map: its pairs are listed, and its words given back.
     ///
-    /// It takes the memory of the list first, of as many pairs as there are. It refuses for want of that memory alone,
-    /// and hands the home back as it was.
+    /// It goes once over the words. The memory of the list it takes before, of as many pairs as the passes stored anew. It
+    /// refuses for want of that memory alone, and hands the home back as it was.
     pub fn close(self, alloc: Global) -> Result<ClosedMap<K, V, L>, Refused<MapHome<K, V, L>>>
         ensures book { IfOk result (λ c. ((map.closed_view c).seen ≡ (map.home_view self).seen) × ((map.closed_view c).key ≡ Some (map.home_key self))) }
         ensures refused { IfErr result (λ e. map.IsAsBefore self e.home) }
     {
+        let many = self.pairs;
         let mut home = self.home;
         home.learn();
-        let count = count_pairs(&mut home);
-        let Ok(pairs) = Vec::with_capacity(alloc, count) else {
+        let Ok(pairs) = list_pairs(alloc, &mut home, many) else {
             home.forget();
             return Err(Refused {
-                home: MapHome { home },
+                home: MapHome { home, pairs: many },
             });
         };
-        let pairs = list_pairs(&mut home, pairs);
         Ok(ClosedMap {
             pairs,
             closed: home.close(),

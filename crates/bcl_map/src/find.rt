@@ -10,14 +10,14 @@ ghost use Rattle.bcl_event.specs.declared.map.MapReply.TheVariants.{Value};
 ghost use Rattle.bcl_phase.specs.Parts as phase;
 ghost use Rattle.bcl_map.specs.Map.{places, path, size, IsShaped};
 ghost use Rattle.bcl_map.specs.Finds.{MaySee, reading, value_of};
-ghost use Rattle.bcl_map.specs.Calls.{Stands, IsBucketAt, reply};
+ghost use Rattle.bcl_map.specs.Calls.{Stands, IsBucketAt, start_at, reply};
 ghost use Rattle.bcl_map.specs.Parts.{lead_key, pass_view, IsOf};
 
 use crate::lead::MapLead;
 use crate::map::Map;
 use crate::pass::MapPass;
 use crate::reach::{Reach, reach_from};
-use crate::walk::walk_of;
+use crate::walk::{Start, start_of, walk_from};
 use crate::walking::Finding;
 use bcl_phase::{Find, Lead, Pass, Promise};
 use bcl_segment::Spot;
@@ -73,6 +73,7 @@ fn value<K: Object, V: Object, L: MergeLaw<V>, P: Promise>(
 pub(crate) fn find_key<K: Object, V: Object, L: MergeLaw<V>, P: Promise>(
     pass: &mut Pass<Map<K, V, L>, P>,
     lead: &Lead<Map<K, V, L>>,
+    start: Start,
     key: &K,
 ) -> Option<V>
     requires key { Fits K.WORDS }
@@ -80,6 +81,7 @@ pub(crate) fn find_key<K: Object, V: Object, L: MergeLaw<V>, P: Promise>(
     requires of { phase.IsOf pass.old lead.now }
     requires shape { IsShaped K.WORDS V.WORDS (phase.lead_heads lead.now) (phase.lead_layout lead.now) (phase.lead_key lead.now) }
     requires see { MaySee (phase.lead_key lead.now) P.CODE (phase.pass_view pass.old).rank (K.words key.now) }
+    requires start { start ≡ start_at (phase.lead_key lead.now) (K.words key.now) }
     requires rest { (phase.pass_view pass.old).note.claims ≡ [] }
     ensures stands { Stands L.op (phase.lead_key lead.now) (phase.pass_view pass.old) (phase.pass_view pass.new) (event (phase.pass_view pass.old).rank (a_find (K.words key.now)) (reply V.words result) ∷ []) }
     ensures rest { (phase.pass_view pass.new).note.claims ≡ [] }
@@ -89,7 +91,7 @@ pub(crate) fn find_key<K: Object, V: Object, L: MergeLaw<V>, P: Promise>(
     ensures atomics { (phase.pass_view pass.new).atomics ≡ (phase.pass_view pass.old).atomics }
 {
     let words = key.to_words();
-    let walk = walk_of(pass, lead, &words);
+    let walk = walk_from(pass, lead, &words, start);
     match reach_from(pass, lead, &Finding, &words, walk, walk.first) {
         Reach::Here(bucket) => Some(value(pass, lead, bucket.at, &words, bucket.number)),
         Reach::Free(_) => None,
@@ -109,6 +111,23 @@ impl<K: Object, V: Object, L: MergeLaw<V>> MapPass<Find, K, V, L> {
         ensures puts { (pass_view self.new).puts ≡ (pass_view self.old).puts }
         ensures atomics { (pass_view self.new).atomics ≡ (pass_view self.old).atomics }
     {
-        find_key(&mut self.pass.pass, &lead.lead, key)
+        let start = start_of(&self.pass.pass, &lead.lead, &key.to_words());
+        self.find_from(lead, start, key)
+    }
+
+    /// The same, of a key whose start is known: it isn't hashed again.
+    ///
+    /// Condition: the start is that of the key, as `start` answers it.
+    #[inline]
+    pub fn find_from(&mut self, lead: &MapLead<K, V, L>, start: Start, key: &K) -> Option<V>
+        requires of { IsOf self.old lead.now }
+        requires start { start ≡ start_at (lead_key lead.now) (K.words key.now) }
+        ensures stands { Stands L.op (lead_key lead.now) (pass_view self.old) (pass_view self.new) (event (pass_view self.old).rank (a_find (K.words key.now)) (reply V.words result) ∷ []) }
+        ensures of { IsOf self.new lead.now }
+        ensures gets { (pass_view self.new).gets ≤ (pass_view self.old).gets + (places (lead_key lead.now) * (1 + K.WORDS) + V.WORDS) }
+        ensures puts { (pass_view self.new).puts ≡ (pass_view self.old).puts }
+        ensures atomics { (pass_view self.new).atomics ≡ (pass_view self.old).atomics }
+    {
+        find_key(&mut self.pass.pass, &lead.lead, start, key)
     }
 }

@@ -20,6 +20,8 @@ where
     Map<K, V, L>: Phased,
 {
     pub home: Home<Map<K, V, L>>,
+    /// How many pairs its passes have counted. No contract speaks of it.
+    pub(crate) pairs: usize,
     ghost unknown: { (home_view home).words ≡ None },
 }
 
@@ -53,9 +55,9 @@ impl<K: Object, V: Object, L: MergeLaw<V>> MapHome<K, V, L> {
             per_rank,
             width: K::WORDS as u32,
         };
-        let words = [0u64].repeat(alloc, (ranks * layout.per_rank) as usize)?;
+        let words = vec![in alloc; 0u64; (ranks * layout.per_rank) as usize]?;
         let home = Home::new(alloc, layout, 0, words, &shape)?;
-        Ok(MapHome { home })
+        Ok(MapHome { home, pairs: 0 })
     }
 
     /// How many ranks there are, and how many buckets each has.
@@ -85,10 +87,14 @@ where
         ensures begins { IfOk result (λ r. Begins (λ p. p.pass) P.CODE self.home r.0.lead r.1.items) }
         ensures refused { IfErr result (λ e. e.home.home ≡ self.home) }
     {
+        let pairs = self.pairs;
         match self.home.begin::<P, MapPass<P, K, V, L>>(alloc) {
-            Ok((lead, passes)) => Ok((MapLead { lead }, passes)),
+            Ok((lead, passes)) => Ok((MapLead { lead, pairs }, passes)),
             Err(refused) => Err(Refused {
-                home: MapHome { home: refused.home },
+                home: MapHome {
+                    home: refused.home,
+                    pairs,
+                },
             }),
         }
     }

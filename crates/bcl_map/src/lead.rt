@@ -13,6 +13,20 @@ where
     Map<K, V, L>: Phased,
 {
     pub lead: Lead<Map<K, V, L>>,
+    /// How many pairs the passes of earlier phases have counted.
+    pub(crate) pairs: usize,
+}
+
+/// How many pairs passes have counted as new.
+fn new_pairs<P: Promise, K, V, L>(passes: &[MapPass<P, K, V, L>]) -> usize
+where
+    Map<K, V, L>: Phased,
+{
+    let mut new = 0usize;
+    for pass in passes {
+        new = new.wrapping_add(pass.stored);
+    }
+    new
 }
 
 impl<K, V, L> MapLead<K, V, L>
@@ -31,8 +45,10 @@ where
         requires all { AreAll (λ p. p.pass) self.lead passes.items }
         ensures ends { Ends (λ p. p.pass) P.CODE self.lead passes.items result.home }
     {
+        let pairs = self.pairs.wrapping_add(new_pairs(&passes));
         MapHome {
             home: self.lead.end::<P, MapPass<P, K, V, L>>(passes),
+            pairs,
         }
     }
 
@@ -51,13 +67,17 @@ where
         ensures turns { IfOk result (λ r. Turns (λ p. p.pass) (λ p. p.pass) P.CODE Q.CODE self.lead passes.items r.0.lead r.1.items) }
         ensures refused { IfErr result (λ e. Ends (λ p. p.pass) P.CODE self.lead passes.items e.home.home) }
     {
+        let pairs = self.pairs.wrapping_add(new_pairs(&passes));
         match self
             .lead
             .turn::<P, Q, MapPass<P, K, V, L>, MapPass<Q, K, V, L>>(alloc, passes)
         {
-            Ok((lead, passes)) => Ok((MapLead { lead }, passes)),
+            Ok((lead, passes)) => Ok((MapLead { lead, pairs }, passes)),
             Err(refused) => Err(Refused {
-                home: MapHome { home: refused.home },
+                home: MapHome {
+                    home: refused.home,
+                    pairs,
+                },
             }),
         }
     }

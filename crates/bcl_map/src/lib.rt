@@ -11,6 +11,7 @@
 //!
 //! - `map`: the sequential object. `specs/Cells.antt` says what a bucket is, `specs/Fits.antt` what the words mean, and
 //!   docs/PROTOCOLS.md the same in prose.
+//! - `room`: how many buckets a map of so many pairs should have, by `specs/Room.antt`.
 //! - `shape`, `note`: what is fixed of a map, and what a pass knows between two of its steps, by `specs/Notes.antt`.
 //! - `home`, `lead`, `pass`: who has a map alone, who has begun a phase, and one rank's part. `specs/Parts.antt` says what
 //!   a contract sees of them.
@@ -19,14 +20,14 @@
 //! - `find`: a find.
 //! - `own`: the calls under `Own`. An insertion and a merge (`merge`) store a value (`storing`) in the place that they find
 //!   or take (`place`) by the same puts (`put`), and are answered what `inserted` has.
-//! - `close`: a map that is closed. `count` and `pairs` list what it has, by `specs/Closed.antt`.
+//! - `close`: a map that is closed. `pairs` lists what it has, by `specs/Closed.antt`.
+//! - `phases`: the first phase of a map, the next, and the end of the last, as a program of concrete types calls them.
 //!
 //! `tutorial` is a whole program on it, which docs/TUTORIAL.md goes through.
 #![tactic(auto)]
 
 mod close;
 mod control;
-mod count;
 mod find;
 mod home;
 mod inserted;
@@ -38,9 +39,11 @@ mod note;
 mod own;
 mod pairs;
 mod pass;
+mod phases;
 mod place;
 mod put;
 mod reach;
+mod room;
 mod shape;
 mod storing;
 #[cfg(test)]
@@ -57,4 +60,7 @@ pub use lead::MapLead;
 pub use map::Map;
 pub use note::{Before, Claim, Lock, Note, Words};
 pub use pass::MapPass;
+pub use phases::{begun, closed, turned};
+pub use room::buckets_for;
 pub use shape::Shape;
+pub use walk::Start;

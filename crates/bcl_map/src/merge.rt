@@ -10,7 +10,7 @@ ghost use Rattle.bcl_phase.specs.Parts.{lead_key, lead_layout, lead_heads, pass_
 ghost use Rattle.bcl_phase.specs.Stands.{Still};
 ghost use Rattle.bcl_map.specs.Map.{places, home, path, size, IsShaped};
 ghost use Rattle.bcl_map.specs.Finds.{reading, value_of};
-ghost use Rattle.bcl_map.specs.Calls.{Stands, IsBucketAt};
+ghost use Rattle.bcl_map.specs.Calls.{Stands, IsBucketAt, start_at};
 ghost use Rattle.bcl_map.specs.Costs.{taken};
 ghost use Rattle.bcl_map.specs.Reaches.{inserted, words_put_by, most_atomics};
 
@@ -19,6 +19,7 @@ use crate::map::Map;
 use crate::place::{Place, place_of};
 use crate::put::replace;
 use crate::storing::Merging;
+use crate::walk::Start;
 use bcl_merge::Merger;
 use bcl_phase::{Lead, Own, Pass};
 use bcl_segment::Spot;
@@ -63,11 +64,12 @@ fn old_value<K: Object, V: Object, L: MergeLaw<V>>(
     value
 }
 
-/// Merges a value into that of a key, whose home is the pass's rank.
+/// Merges a value into that of a key, whose home is the pass's rank and whose path begins at this start.
 #[inline]
 pub(crate) fn merge_key<K: Object, V: Object, L: MergeLaw<V>, F: Fn(V, V) -> V + Sync>(
     pass: &mut Pass<Map<K, V, L>, Own>,
     lead: &Lead<Map<K, V, L>>,
+    start: Start,
     key: &K,
     value: &V,
     merger: &Merger<V, L, F>,
@@ -78,6 +80,7 @@ pub(crate) fn merge_key<K: Object, V: Object, L: MergeLaw<V>, F: Fn(V, V) -> V +
     requires of { IsOf pass.old lead.now }
     requires shape { IsShaped K.WORDS V.WORDS (lead_heads lead.now) (lead_layout lead.now) (lead_key lead.now) }
     requires mine { home (lead_key lead.now) (K.words key.now) ≡ (pass_view pass.old).rank }
+    requires start { start ≡ start_at (lead_key lead.now) (K.words key.now) }
     requires rest { (pass_view pass.old).note.claims ≡ [] }
     ensures stands { Stands L.op (lead_key lead.now) (pass_view pass.old) (pass_view pass.new) (event (pass_view pass.old).rank (Merge (K.words key.now) (V.words value.now)) (inserted result) ∷ []) }
     ensures rest { (pass_view pass.new).note.claims ≡ [] }
@@ -89,7 +92,7 @@ pub(crate) fn merge_key<K: Object, V: Object, L: MergeLaw<V>, F: Fn(V, V) -> V +
     let words = key.to_words();
     let value_words = value.to_words();
     let call = Merging { value: value_words };
-    match place_of(pass, lead, &call, &words) {
+    match place_of(pass, lead, &call, &words, start) {
         Place::New => Inserted::New,
         Place::Here(bucket) => {
             let old = old_value(pass, lead, bucket.at, &words, bucket.number);

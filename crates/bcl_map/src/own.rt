@@ -7,7 +7,7 @@ ghost use Rattle.bcl_event.specs.History.{event};
 ghost use Rattle.bcl_event.specs.declared.map.MapCall.TheVariants.{Find, Insert, Merge};
 ghost use Rattle.bcl_phase.specs.Parts as phase;
 ghost use Rattle.bcl_map.specs.Map.{places, home, IsShaped};
-ghost use Rattle.bcl_map.specs.Calls.{Stands, IsMine, reply};
+ghost use Rattle.bcl_map.specs.Calls.{Stands, IsMine, start_at, reply};
 ghost use Rattle.bcl_map.specs.Costs.{taken};
 ghost use Rattle.bcl_map.specs.Reaches.{inserted, words_put_by, most_atomics};
 ghost use Rattle.bcl_map.specs.Parts.{lead_key, pass_view, IsOf};
@@ -21,6 +21,7 @@ use crate::pass::MapPass;
 use crate::place::{Place, place_of};
 use crate::put::replace;
 use crate::storing::Inserting;
+use crate::walk::{Start, start_of};
 use bcl_merge::Merger;
 use bcl_phase::{Lead, Own, Pass};
 use bcl_words::{MergeLaw, Object};
@@ -50,7 +51,8 @@ fn insert_key<K: Object, V: Object, L: MergeLaw<V>>(
     let words = key.to_words();
     let value_words = value.to_words();
     let call = Inserting { value: value_words };
-    match place_of(pass, lead, &call, &words) {
+    let start = start_of(pass, lead, &words);
+    match place_of(pass, lead, &call, &words, start) {
         Place::New => Inserted::New,
         Place::Here(bucket) => {
             replace(
@@ -65,6 +67,15 @@ fn insert_key<K: Object, V: Object, L: MergeLaw<V>>(
             Inserted::Replaced
         }
         Place::Full => Inserted::Full,
+    }
+}
+
+/// One more, where a pair is new.
+#[inline]
+fn counted(stored: usize, inserted: Inserted) -> usize {
+    match inserted {
+        Inserted::New => stored.wrapping_add(1),
+        Inserted::Replaced | Inserted::Full => stored,
     }
 }
 
@@ -83,7 +94,8 @@ impl<K: Object, V: Object, L: MergeLaw<V>> MapPass<Own, K, V, L> {
         ensures puts { (pass_view self.new).puts ≡ (pass_view self.old).puts }
         ensures atomics { (pass_view self.new).atomics ≡ (pass_view self.old).atomics }
     {
-        find_key(&mut self.pass.pass, &lead.lead, key)
+        let start = start_of(&self.pass.pass, &lead.lead, &key.to_words());
+        find_key(&mut self.pass.pass, &lead.lead, start, key)
     }
 
     /// Stores a value for a key, in the place of its old one if it has one. It refuses for want of a bucket alone, where
@@ -105,7 +117,9 @@ impl<K: Object, V: Object, L: MergeLaw<V>> MapPass<Own, K, V, L> {
         ensures puts { (pass_view self.new).puts ≡ (pass_view self.old).puts + words_put_by K.WORDS V.WORDS result }
         ensures atomics { (pass_view self.new).atomics ≤ (pass_view self.old).atomics + most_atomics (taken (pass_view self.old) (pass_view self.new)) result }
     {
-        insert_key(&mut self.pass.pass, &lead.lead, key, value)
+        let inserted = insert_key(&mut self.pass.pass, &lead.lead, key, value);
+        self.stored = counted(self.stored, inserted);
+        inserted
     }
 
     /// Merges a value into that of a key: the key has then what the merger makes of its old value and this one. A key that
@@ -134,6 +148,34 @@ impl<K: Object, V: Object, L: MergeLaw<V>> MapPass<Own, K, V, L> {
         ensures puts { (pass_view self.new).puts ≡ (pass_view self.old).puts + words_put_by K.WORDS V.WORDS result }
         ensures atomics { (pass_view self.new).atomics ≤ (pass_view self.old).atomics + most_atomics (taken (pass_view self.old) (pass_view self.new)) result }
     {
-        merge_key(&mut self.pass.pass, &lead.lead, key, value, merger)
+        let start = start_of(&self.pass.pass, &lead.lead, &key.to_words());
+        self.merge_from(lead, start, key, value, merger)
+    }
+
+    /// The same, of a key whose start is known: it isn't hashed again.
+    ///
+    /// Condition: as of `merge`, and the start is that of the key, as `start` answers it.
+    #[inline]
+    pub fn merge_from<F: Fn(V, V) -> V + Sync>(
+        &mut self,
+        lead: &MapLead<K, V, L>,
+        start: Start,
+        key: &K,
+        value: &V,
+        merger: &Merger<V, L, F>,
+    ) -> Inserted
+        requires of { IsOf self.old lead.now }
+        requires mine { IsMine (pass_view self.old) (K.words key.now) }
+        requires start { start ≡ start_at (lead_key lead.now) (K.words key.now) }
+        requires answers { AnswersLaw V.passes V.words L.op (F.pre merger.now) (F.post merger.now) }
+        ensures stands { Stands L.op (lead_key lead.now) (pass_view self.old) (pass_view self.new) (event (pass_view self.old).rank (Merge (K.words key.now) (V.words value.now)) (inserted result) ∷ []) }
+        ensures of { IsOf self.new lead.now }
+        ensures gets { (pass_view self.new).gets ≤ (pass_view self.old).gets + (places (lead_key lead.now) * (1 + K.WORDS) + V.WORDS + taken (pass_view self.old) (pass_view self.new)) }
+        ensures puts { (pass_view self.new).puts ≡ (pass_view self.old).puts + words_put_by K.WORDS V.WORDS result }
+        ensures atomics { (pass_view self.new).atomics ≤ (pass_view self.old).atomics + most_atomics (taken (pass_view self.old) (pass_view self.new)) result }
+    {
+        let inserted = merge_key(&mut self.pass.pass, &lead.lead, start, key, value, merger);
+        self.stored = counted(self.stored, inserted);
+        inserted
     }
 }

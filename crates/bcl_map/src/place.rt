@@ -11,7 +11,7 @@ ghost use Rattle.bcl_map.specs.declared.note.Before.TheVariants.{Nothing};
 ghost use Rattle.bcl_map.specs.declared.place.Place.TheVariants.{New as new_place};
 ghost use Rattle.bcl_map.specs.Map as map;
 ghost use Rattle.bcl_map.specs.Map.{places, path, size, IsShaped};
-ghost use Rattle.bcl_map.specs.Calls.{IsBucketAt};
+ghost use Rattle.bcl_map.specs.Calls.{IsBucketAt, start_at};
 ghost use Rattle.bcl_map.specs.Inserts.{writing};
 ghost use Rattle.bcl_map.specs.Reaches.{KnowsOwn, Comes, Ends, IsHeading, IsFacing, IsPlaceOf, places_seen, words_placed};
 
@@ -20,7 +20,7 @@ use crate::map::Map;
 use crate::put::put_pair;
 use crate::reach::{Reach, reach_from};
 use crate::storing::Storing;
-use crate::walk::{Bucket, walk_of};
+use crate::walk::{Bucket, Start, walk_from};
 use bcl_phase::{Lead, Own, Pass};
 use bcl_segment::Spot;
 use bcl_words::{MergeLaw, Object};
@@ -84,6 +84,7 @@ pub(crate) fn place_of<K: Object, V: Object, L: MergeLaw<V>, C: Storing>(
     lead: &Lead<Map<K, V, L>>,
     call: &C,
     key: &[u64; 8],
+    start: Start,
 ) -> Place
     requires key { Fits K.WORDS }
     requires value { Fits V.WORDS }
@@ -92,6 +93,7 @@ pub(crate) fn place_of<K: Object, V: Object, L: MergeLaw<V>, C: Storing>(
     requires of { IsOf pass.old lead.now }
     requires shape { IsShaped K.WORDS V.WORDS (lead_heads lead.now) (lead_layout lead.now) (lead_key lead.now) }
     requires mine { map.home (lead_key lead.now) key.now ≡ (pass_view pass.old).rank }
+    requires start { start ≡ start_at (lead_key lead.now) key.now }
     requires rest { (pass_view pass.old).note.claims ≡ [] }
     ensures placed { IsPlaceOf L.op (lead_key lead.now) (size K.WORDS V.WORDS) (lead_layout lead.now) (C.walker call.now key.now).call key.now (pass_view pass.old) (pass_view pass.new) result }
     ensures of { IsOf pass.new lead.now }
@@ -99,7 +101,7 @@ pub(crate) fn place_of<K: Object, V: Object, L: MergeLaw<V>, C: Storing>(
     ensures again { result ≢ new_place → (pass_view pass.old).gets + places_seen (places (lead_key lead.now)) result + (pass_view pass.new).atomics ≤ (pass_view pass.new).gets + (pass_view pass.old).atomics }
     ensures puts { (pass_view pass.new).puts ≡ (pass_view pass.old).puts + words_placed K.WORDS V.WORDS result }
 {
-    let walk = walk_of(pass, lead, key);
+    let walk = walk_from(pass, lead, key, start);
     let mut from = walk.first;
     loop {
         match reach_from(pass, lead, call, key, walk, from) {

@@ -27,7 +27,7 @@ impl MergeLaw<u128> for Nought {
 }
 
 // Begins a phase of finds, and again where it is refused.
-fn begun<K: Object, V: Object, L: MergeLaw<V>>(
+fn begun_or_again<K: Object, V: Object, L: MergeLaw<V>>(
     alloc: Global,
     home: MapHome<K, V, L>,
 ) -> Result<(MapLead<K, V, L>, Vec<MapPass<Find, K, V, L>>), Fail>
@@ -44,7 +44,7 @@ fn begun<K: Object, V: Object, L: MergeLaw<V>>(
 }
 
 // The same of the next phase.
-fn turned<K: Object, V: Object, L: MergeLaw<V>>(
+fn turned_or_again<K: Object, V: Object, L: MergeLaw<V>>(
     alloc: Global,
     lead: MapLead<K, V, L>,
     passes: Vec<MapPass<Find, K, V, L>>,
@@ -54,7 +54,7 @@ fn turned<K: Object, V: Object, L: MergeLaw<V>>(
 {
     match lead.turn::<Find, Find>(alloc, passes) {
         Ok(turned) => Ok(turned),
-        Err(refused) => begun(alloc, refused.home),
+        Err(refused) => begun_or_again(alloc, refused.home),
     }
 }
 
@@ -77,7 +77,7 @@ fn last_finds<K: Object, V: Object, L: MergeLaw<V>>(
 }
 
 // Closes a map, and again where it is refused.
-fn closed<K: Object, V: Object, L: MergeLaw<V>>(
+fn closed_or_again<K: Object, V: Object, L: MergeLaw<V>>(
     alloc: Global,
     home: MapHome<K, V, L>,
 ) -> Result<ClosedMap<K, V, L>, Fail> {
@@ -106,11 +106,11 @@ fn finds<K: Object, V: Object, L: MergeLaw<V>>(
     requires words { ranks * per_rank * (1 + (K.WORDS + V.WORDS)) ≤ 2 ^ 27 }
 {
     let home = MapHome::<K, V, L>::new(alloc, ranks, per_rank)?;
-    let (lead, mut passes) = begun(alloc, home)?;
+    let (lead, mut passes) = begun_or_again(alloc, home)?;
     let first = last_finds(&lead, &mut passes, key)?;
-    let (lead, mut passes) = turned(alloc, lead, passes)?;
+    let (lead, mut passes) = turned_or_again(alloc, lead, passes)?;
     let second = last_finds(&lead, &mut passes, other)?;
-    let closed = closed(alloc, lead.end::<Find>(passes))?;
+    let closed = closed_or_again(alloc, lead.end::<Find>(passes))?;
     Ok(([first, second], closed.entries().len()))
 }
 
@@ -174,7 +174,7 @@ fn owners<K: Object>(alloc: Global, ranks: u32, per_rank: u32, key: &K) -> Resul
     requires words { ranks * per_rank * (1 + (K.WORDS + 1)) ≤ 2 ^ 27 }
 {
     let home = MapHome::<K, u64, Sum>::new(alloc, ranks, per_rank)?;
-    let (lead, passes) = begun(alloc, home)?;
+    let (lead, passes) = begun_or_again(alloc, home)?;
     let mut owners = Vec::new(alloc);
     for pass in &passes {
         if pass.is_mine(key) {
@@ -213,7 +213,7 @@ fn last_rank<K: Object>(alloc: Global, ranks: u32) -> Result<Option<u32>, Fail>
     requires words { ranks * 1 * (1 + (K.WORDS + 1)) ≤ 2 ^ 27 }
 {
     let home = MapHome::<K, u64, Sum>::new(alloc, ranks, 1)?;
-    let (lead, passes) = begun(alloc, home)?;
+    let (lead, passes) = begun_or_again(alloc, home)?;
     let last = passes.last().map(|pass| pass.rank());
     lead.end::<Find>(passes);
     Ok(last)

@@ -3,12 +3,11 @@
 ghost use Rattle.std.specs.Prelude.{◌≡◌, ◌+◌, ℕ, length, IfOk};
 ghost use mathlib.Core.Option.{some};
 ghost use lib.ListN.{get_elem?};
-ghost use Rattle.bcl_phase.specs.Deals.{view, IsIn, AreOf, AreAll};
+ghost use Rattle.bcl_phase.specs.Deals.{view, IsIn, AreOf};
 
-use crate::{Inserted, Map, MapHome, MapLead, MapPass};
+use crate::{Inserted, Map, MapHome, MapLead, MapPass, begun, closed, turned};
 use bcl_merge::Sum;
 use bcl_phase::{Always, Carries, Find, Kit, Own, Phased, passes_of, superstep_all};
-use bcl_words::{MergeLaw, NoMemory, Object};
 use std::alloc::{AllocError, Global};
 use std::marker::Sync;
 use std::test::Fail;
@@ -59,28 +58,6 @@ impl<'a> Carries for Indexer<'a, u64, u64, Sum> {
     }
 }
 
-// Begins a phase under Own.
-pub(crate) fn begun<K: Object, V: Object, L: MergeLaw<V>>(
-    alloc: Global,
-    home: MapHome<K, V, L>,
-) -> Result<(MapLead<K, V, L>, Vec<MapPass<Own, K, V, L>>), NoMemory>
-    ensures all { IfOk result (λ r. AreAll (λ p. p.pass) r.0.lead r.1.items) }
-{
-    Ok(home.begin::<Own>(alloc)?)
-}
-
-// The next phase, under Find.
-pub(crate) fn turned<K: Object, V: Object, L: MergeLaw<V>>(
-    alloc: Global,
-    lead: MapLead<K, V, L>,
-    passes: Vec<MapPass<Own, K, V, L>>,
-) -> Result<(MapLead<K, V, L>, Vec<MapPass<Find, K, V, L>>), NoMemory>
-    requires all { AreAll (λ p. p.pass) lead.lead passes.items }
-    ensures all { IfOk result (λ r. AreAll (λ p. p.pass) r.0.lead r.1.items) }
-{
-    Ok(lead.turn::<Own, Find>(alloc, passes)?)
-}
-
 // An indexer for each pass, the last rank first.
 pub(crate) fn indexers<'a>(
     alloc: Global,
@@ -104,11 +81,6 @@ pub(crate) fn indexers<'a>(
     Ok(kits)
 }
 
-// How many pairs a map has.
-fn count_of<K: Object>(alloc: Global, home: MapHome<K, u64, Sum>) -> Result<usize, NoMemory> {
-    Ok(home.close(alloc)?.entries().len())
-}
-
 // What an index of a list says of two keys, and how many keys it has.
 fn look_up<H: Threads + Sync>(
     rt: &H,
@@ -129,7 +101,7 @@ fn look_up<H: Threads + Sync>(
 
     // No rank has a pass after this: it is the barrier.
     let passes = passes_of(alloc, &lead.lead, kits)?;
-    let (lead, mut passes) = turned(alloc, lead, passes)?;
+    let (lead, mut passes) = turned::<_, Find, _, _, _>(alloc, lead, passes)?;
 
     // Under `Find` every rank may find every key, with plain loads.
     let Some(mut pass) = passes.pop() else {
@@ -139,7 +111,7 @@ fn look_up<H: Threads + Sync>(
     passes.push(pass)?;
 
     // The home has seen the whole history. A closed map has its pairs.
-    let count = count_of(alloc, lead.end::<Find>(passes))?;
+    let count = closed(alloc, lead.end::<Find>(passes))?.entries().len();
     Ok((found, count))
 }
 

@@ -6,12 +6,12 @@ ghost use Rattle.bcl_segment.specs.Places as segment;
 ghost use Rattle.bcl_phase.specs.Parts.{lead_key, lead_layout, lead_heads, IsOf};
 ghost use Rattle.bcl_map.specs.Map as map;
 ghost use Rattle.bcl_map.specs.Map.{places, path, size, IsShaped};
-ghost use Rattle.bcl_map.specs.Calls.{IsBucketAt, after};
+ghost use Rattle.bcl_map.specs.Calls.{IsBucketAt, start_at, after};
 
 use crate::map::Map;
 use bcl_bucket::start_of_words;
 use bcl_phase::{Lead, Pass, Promise};
-use bcl_segment::Layout;
+use bcl_segment::{Layout, Spot};
 use bcl_words::{MergeLaw, Object};
 
 // How many words a bucket has.
@@ -65,16 +65,63 @@ pub(crate) struct Walk {
     pub first: Bucket,
 }
 
-/// The walk of a key with these words.
+/// Where the path of a key begins: the number of the bucket among those of all ranks, and the rank that has it.
+#[derive(Clone, Copy, Debug, PartialEq, Eq)]
+pub struct Start {
+    pub place: u32,
+    pub home: u32,
+}
+
+/// Where the path of a key with these words begins.
 #[inline(always)]
-pub(crate) fn walk_of<K: Object, V: Object, L: MergeLaw<V>, P: Promise>(
+pub(crate) fn start_of<K: Object, V: Object, L: MergeLaw<V>, P: Promise>(
     pass: &Pass<Map<K, V, L>, P>,
     lead: &Lead<Map<K, V, L>>,
     key: &[u64; 8],
+) -> Start
+    requires key { Fits K.WORDS }
+    requires of { IsOf pass.now lead.now }
+    requires shape { IsShaped K.WORDS V.WORDS (lead_heads lead.now) (lead_layout lead.now) (lead_key lead.now) }
+    ensures start { result ≡ start_at (lead_key lead.now) key.now }
+{
+    let buckets = in_buckets::<K, V>(pass.layout());
+    let place = start_of_words::<K>(key, buckets.ranks * buckets.per_rank);
+    Start {
+        place,
+        home: place / buckets.per_rank,
+    }
+}
+
+/// The same, and its first control word is brought near.
+#[inline(always)]
+pub(crate) fn start_near<K: Object, V: Object, L: MergeLaw<V>, P: Promise>(
+    pass: &Pass<Map<K, V, L>, P>,
+    lead: &Lead<Map<K, V, L>>,
+    key: &[u64; 8],
+) -> Start
+    requires key { Fits K.WORDS }
+    requires of { IsOf pass.now lead.now }
+    requires shape { IsShaped K.WORDS V.WORDS (lead_heads lead.now) (lead_layout lead.now) (lead_key lead.now) }
+    ensures start { result ≡ start_at (lead_key lead.now) key.now }
+{
+    let start = start_of(pass, lead, key);
+    let walk = walk_from(pass, lead, key, start);
+    lead.prefetch(Spot::word_of(walk.first.at, 0));
+    start
+}
+
+/// The walk from a start on.
+#[inline(always)]
+pub(crate) fn walk_from<K: Object, V: Object, L: MergeLaw<V>, P: Promise>(
+    pass: &Pass<Map<K, V, L>, P>,
+    lead: &Lead<Map<K, V, L>>,
+    key: &[u64; 8],
+    start: Start,
 ) -> Walk
     requires key { Fits K.WORDS }
     requires of { IsOf pass.now lead.now }
     requires shape { IsShaped K.WORDS V.WORDS (lead_heads lead.now) (lead_layout lead.now) (lead_key lead.now) }
+    requires start { start ≡ start_at (lead_key lead.now) key.now }
     ensures places { result.places ≡ places (lead_key lead.now) }
     ensures end { result.end ≡ segment.places (lead_layout lead.now) }
     ensures home { result.home ≡ map.home (lead_key lead.now) key.now }
@@ -83,14 +130,12 @@ pub(crate) fn walk_of<K: Object, V: Object, L: MergeLaw<V>, P: Promise>(
 {
     let layout = pass.layout();
     let buckets = in_buckets::<K, V>(layout);
-    let places = buckets.ranks * buckets.per_rank;
-    let first = start_of_words::<K>(key, places);
     Walk {
-        places,
+        places: buckets.ranks * buckets.per_rank,
         end: layout.ranks * layout.per_rank,
-        home: first / buckets.per_rank,
+        home: start.home,
         first: Bucket {
-            at: bucket_at::<K, V>(first),
+            at: bucket_at::<K, V>(start.place),
             number: 0,
         },
     }

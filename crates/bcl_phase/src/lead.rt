@@ -6,7 +6,7 @@ ghost use Rattle.bcl_segment.specs.Resting.{resting_view};
 ghost use Rattle.bcl_phase.specs.Seats.{IsRestingHome, IsLaid};
 
 use crate::Phased;
-use bcl_segment::{Layout, Resting, Segments};
+use bcl_segment::{Layout, Resting, Segments, Spot};
 
 /// A container in a phase: each rank has a pass. Ranks share the lead by `&`, and each call of a pass is given it.
 #[derive(Drop)]
@@ -22,4 +22,16 @@ pub struct Lead<R: Phased> {
     pub ghost shared: { (resting_view home).passes ≡ layout.ranks },
     pub ghost whole: { (resting_view home).loose ≡ false },
     pub ghost none_back: { (resting_view home).back ≡ [] },
+}
+
+impl<R: Phased> Lead<R> {
+    ghost use Rattle.bcl_phase.specs.Parts.{HasSpot};
+
+    /// Brings the word at a spot near, for a step that comes soon, by one load. It tells nothing, and no pass counts it.
+    #[inline(always)]
+    pub fn prefetch(&self, spot: Spot)
+        requires spot { HasSpot self.now spot }
+    {
+        self.segments.prefetch(spot);
+    }
 }

@@ -8,9 +8,9 @@ use crate::find::{Finder, finders};
 use crate::job::{Job, Stage};
 use crate::keys::Lists;
 use crate::store::{Storer, storers};
-use bcl_map::{MapHome, MapLead, MapPass};
+use bcl_map::{MapHome, begun, turned};
 use bcl_merge::Sum;
-use bcl_phase::{Always, Find, Own, passes_of, superstep_all};
+use bcl_phase::{Always, passes_of, superstep_all};
 use bcl_words::{NoMemory, Object};
 use std::alloc::Global;
 use std::marker::Sync;
@@ -43,34 +43,6 @@ fn found<K: Object>(kits: &[Finder<K, u64, Sum>]) -> u64 {
     sum
 }
 
-/// An empty map in a phase under Own.
-fn begun<K: Object>(
-    alloc: Global,
-    ranks: u32,
-    per_rank: u32,
-) -> Result<(MapLead<K, u64, Sum>, Vec<MapPass<Own, K, u64, Sum>>), NoMemory>
-    requires key { Fits K.WORDS }
-    requires ranks { (1 ≤ ranks) × (ranks ≤ 64) }
-    requires buckets { 1 ≤ per_rank }
-    requires words { ranks * per_rank * (1 + (K.WORDS + 1)) ≤ 2 ^ 27 }
-    ensures all { IfOk result (λ r. AreAll (λ p. p.pass) r.0.lead r.1.items) }
-{
-    let home = MapHome::<K, u64, Sum>::new(alloc, ranks, per_rank)?;
-    Ok(home.begin::<Own>(alloc)?)
-}
-
-/// The next phase, under Find.
-fn turned<K: Object>(
-    alloc: Global,
-    lead: MapLead<K, u64, Sum>,
-    passes: Vec<MapPass<Own, K, u64, Sum>>,
-) -> Result<(MapLead<K, u64, Sum>, Vec<MapPass<Find, K, u64, Sum>>), NoMemory>
-    requires all { AreAll (λ p. p.pass) lead.lead passes.items }
-    ensures all { IfOk result (λ r. AreAll (λ p. p.pass) r.0.lead r.1.items) }
-{
-    Ok(lead.turn::<Own, Find>(alloc, passes)?)
-}
-
 /// Stores pairs, each rank its own, and finds keys, each rank its share of them.
 pub fn run<H: Threads + Sync>(
     rt: &H,
@@ -78,7 +50,8 @@ pub fn run<H: Threads + Sync>(
     job: &Job,
     lists: &Lists,
 ) -> Result<u64, NoMemory> {
-    let (lead, passes) = begun::<u64>(alloc, job.ranks, job.per_rank)?;
+    let home = MapHome::new(alloc, job.ranks, job.per_rank)?;
+    let (lead, passes) = begun(alloc, home)?;
     let mut kits = storers(alloc, &lead, passes, job.call, &lists.stored)?;
     if job.stage == Stage::Dealt {
         return Ok(dealt(&kits));

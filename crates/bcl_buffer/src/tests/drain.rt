@@ -11,9 +11,8 @@ ghost use Rattle.bcl_buffer.specs.declared.buffer.State.TheVariants.{Exchanged};
 ghost use Rattle.bcl_buffer.specs.Drains.{shape_in, IsFor};
 
 use super::{SHAPE, filled};
-use crate::tutorial::{begun, closed};
 use crate::{Buffer, Drained, State, exchange};
-use bcl_map::{ClosedMap, MapHome, MapLead, MapPass};
+use bcl_map::{ClosedMap, MapHome, MapLead, MapPass, begun, closed};
 use bcl_merge::{Merger, Sum, wrapping_sum};
 use bcl_phase::{Always, Carries, Kit, Own, passes_of, superstep_all};
 use bcl_segment::Layout;
@@ -102,7 +101,8 @@ fn side_by_side<H: Threads + Sync>(
     alloc: Global,
     buffers: Vec<Buffer<u64, u64>>,
 ) -> Result<(u64, Vec<(u64, u64)>), Fail> {
-    let (lead, passes) = begun(alloc, SHAPE)?;
+    let home = MapHome::new(alloc, SHAPE.ranks, SHAPE.per_rank)?;
+    let (lead, passes) = begun(alloc, home)?;
     let mut kits = drainers(alloc, &lead, passes, buffers, SHAPE)?;
     superstep_all(rt, &mut kits, &Always);
     let mut ended = 0u64;
@@ -170,7 +170,8 @@ fn one_bucket<F: Fn(u64, u64) -> u64 + Sync>(
     requires shape { shape ≡ record { ranks = 1; per_rank = 1 } }
     requires answers { AnswersLaw ⟦<u64 as Object>⟧.passes ⟦<u64 as Object>⟧.words ⟦<Sum as MergeLaw<u64>>⟧.op (F.pre sum.now) (F.post sum.now) }
 {
-    let (lead, mut passes) = begun(alloc, shape)?;
+    let home = MapHome::new(alloc, shape.ranks, shape.per_rank)?;
+    let (lead, mut passes) = begun(alloc, home)?;
     let (first, buffer) = last_drains(&lead, &mut passes, buffer, shape, sum)?;
     let first = (first, buffer.left());
     let (second, buffer) = last_drains(&lead, &mut passes, buffer, shape, sum)?;

@@ -9,8 +9,8 @@ ghost use Rattle.bcl_segment.specs.Places.{places};
 ghost use Rattle.bcl_buffer.specs.declared.buffer.State.TheVariants.{Filling};
 
 use super::filled;
-use crate::tutorial::{begun, closed};
 use crate::{Buffer, flush};
+use bcl_map::{MapHome, begun, closed};
 use bcl_merge::{LeastWords, Merger, Sum, least_words, wrapping_sum};
 use bcl_phase::{Always, Own};
 use bcl_segment::Layout;
@@ -56,7 +56,8 @@ fn flushed<K: Object, V: Object, L: MergeLaw<V>, F: Fn(V, V) -> V + Sync, H: Thr
     requires answers { AnswersLaw V.passes V.words L.op (F.pre merger.now) (F.post merger.now) }
 {
     let buffers = all_filled(alloc, shape, pairs)?;
-    let (lead, passes) = begun(alloc, shape)?;
+    let home = MapHome::new(alloc, shape.ranks, shape.per_rank)?;
+    let (lead, passes) = begun(alloc, home)?;
     let (passes, buffers) = flush(rt, alloc, &lead, passes, buffers, merger, &Always)?;
     for buffer in &buffers {
         if !buffer.is_filling() || buffer.left() != 0 {

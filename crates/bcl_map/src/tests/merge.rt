@@ -7,10 +7,9 @@ ghost use Rattle.bcl_words.specs.Words.{Fits};
 ghost use Rattle.bcl_words.specs.Merges.{AnswersLaw};
 ghost use Rattle.bcl_phase.specs.Deals.{view, IsIn, AreOf};
 
+use super::Nought;
 use super::own::{Meeting, last_finds};
-use super::{Nought, closed};
-use crate::tutorial::begun;
-use crate::{ClosedMap, Inserted, MapHome, MapLead, MapPass};
+use crate::{ClosedMap, Inserted, MapHome, MapLead, MapPass, begun, closed};
 use bcl_merge::{Merger, Sum, wrapping_sum};
 use bcl_phase::{Carries, Kit, Own, passes_of, superstep_all};
 use bcl_words::{MergeLaw, Object, Pair};

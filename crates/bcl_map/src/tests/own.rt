@@ -4,9 +4,9 @@ ghost use Rattle.std.specs.Prelude.{◌≡◌, ◌≤◌, ◌*◌, ◌^◌, leng
 ghost use Rattle.bcl_words.specs.Words.{Fits};
 ghost use Rattle.bcl_phase.specs.Deals.{AreOf};
 
-use super::{Nought, closed};
-use crate::tutorial::{begun, indexers, turned};
-use crate::{ClosedMap, Inserted, MapHome, MapLead, MapPass};
+use super::Nought;
+use crate::tutorial::indexers;
+use crate::{ClosedMap, Inserted, MapHome, MapLead, MapPass, begun, closed, turned};
 use bcl_merge::Sum;
 use bcl_phase::{Find, Gate, Own, passes_of, superstep_all};
 use bcl_words::{MergeLaw, Object, Pair};

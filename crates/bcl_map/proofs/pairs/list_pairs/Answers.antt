@@ -12,7 +12,7 @@ use Rattle.bcl_map.specs.Closed.{object, pair_at, pairs_to, in_words}
 use Rattle.bcl_map.proofs.Closes.{unused, taken, part_within, part_long, key_there, value_there, pair_read, few_up_to, more_in_words, as_many_words}
 use Rattle.bcl_map.proofs.Looks.{small, spot_is, found_is}
 use Rattle.bcl_map.proofs.Walks.{few_all, few_words, places_by, bucket_at}
-use Rattle.bcl_map.proofs.pairs.list_pairs.Goals.{then-look-ne0+in-Ok, else-look-ne0}
+use Rattle.bcl_map.proofs.pairs.list_pairs.Goals.{then-look-ne0+in_ok-push, else-look-ne0}
 use Rattle.bcl_map.proofs.pairs.list_pairs.Goals as goal
 
 pub bucket_at-at-requires-clause-room : goal.bucket_at-at-requires-clause-room
@@ -88,18 +88,6 @@ read_object-value-requires-clause-passes g c κs outlives = let home = c.args.ho
     subst (λ (z : MapView × Layout). g.V.Object.passes (object vw (words_of z.0) (c.bucket_at-at.result + (1 + c.WORDS.result))) ≡ true) (λ i. (sym view i, sym layout i))
     (value_there kw vw g.K.Object.passes g.V.Object.passes (home_layout home) L 0 ws _ c.requires.fit c.requires.key.most c.requires.value.most c.bucket_at-at.result n bucket (omega arith) c.WORDS.result c.WORDS.ensures (λ e. c.if-look-ne0.true (found ∙ e)))
 
-pub unreachable-requires : goal.unreachable-requires
-unreachable-requires g c = let home = c.args.home.now in let kw = g.K.Object.WORDS in let vw = g.V.Object.WORDS in let I = c.loop-place.invariant in let L = home_key home in let ws = home_words home in let n = c.loop-place.place in
-    let many = places_by kw vw (home_heads home) (home_layout home) L c.requires.shape c.layout.result _ c.layout.ensures.layout c.in_buckets-buckets.ensures.buckets in let below = c.loop-place-test.true in
-    let bucket = bucket_at kw vw (home_heads home) (home_layout home) L c.requires.shape c.loop-place.place c.bucket_at-at.result (omega arith) c.bucket_at-at.ensures.at in
-    let found : c.look.result ≡ slice_index ws (size kw vw * n + 0) = found_is kw vw (home_heads home) (home_layout home) L c.requires.shape c.bucket_at-at.result n 0 c.word_of.result bucket c.word_of.ensures.spot
-    (home_view home) (home_view c.loop-place.home) (home_heads c.loop-place.home) (home_layout c.loop-place.home) c.look.result I.view I.same.3 I.same.2 c.look.ensures.value in
-    let more : length (pairs_to kw vw ws (suc n)) ≡ length (pairs_to kw vw ws n) + 1 = ap length (taken kw vw ws n (λ e. c.if-look-ne0.true (found ∙ e))) ∙ length-append (pairs_to kw vw ws n) (pair_at kw vw ws n ∷ []) in
-    let all = few_up_to kw vw g.K.Object.passes g.V.Object.passes (home_layout home) L 0 ws _ c.requires.fit c.requires.key.most c.requires.value.most c.bucket_at-at.result n bucket (omega arith) (suc n) (places L - suc n) in let up : suc n + (places L - suc n) ≡ places L = omega arith in let same = ap (λ (m : ℕ). length (pairs_to kw vw ws m)) up in
-    let long : length c.loop-place.pairs.items ≡ length (pairs_to kw vw ws n) = sym (as_many_words g.K.Object.words g.V.Object.words c.loop-place.pairs.items) ∙ ap length I.pairs in
-    let enough = I.room in let less : length c.loop-place.pairs.items < vec_capacity c.loop-place.pairs = omega arith in
-    search rules
-
 pub loop-place-preserved : goal.loop-place-preserved
 loop-place-preserved g c = let home = c.args.home.now in let kw = g.K.Object.WORDS in let vw = g.V.Object.WORDS in let I = c.loop-place.invariant in let L = home_key home in let ws = home_words home in let n = c.loop-place.place in
     let many = places_by kw vw (home_heads home) (home_layout home) L c.requires.shape c.layout.result _ c.layout.ensures.layout c.in_buckets-buckets.ensures.buckets in let below = c.loop-place-test.true in
@@ -108,7 +96,7 @@ loop-place-preserved g c = let home = c.args.home.now in let kw = g.K.Object.WOR
     (home_view home) (home_view c.loop-place.home) (home_heads c.loop-place.home) (home_layout c.loop-place.home) c.look.result I.view I.same.3 I.same.2 c.look.ensures.value in
     let same = c.look.ensures.same in let next : n + 1 ≡ suc n = omega arith in
     elim c.if-look-ne0.branch [
-      | then-look-ne0+in-Ok w ↦
+      | then-look-ne0+in_ok-push w ↦
           let a = w.read_object-key.ensures in let b = w.read_object-value.ensures in
           let view : home_view w.read_object-value.new.home ≡ home_view home = b.view ∙ (a.view ∙ (c.look.ensures.view ∙ I.view)) in
           let key : g.K.Object.words w.read_object-key.result ≡ object kw ws (c.bucket_at-at.result + 1) =
@@ -118,18 +106,16 @@ loop-place-preserved g c = let home = c.args.home.now in let kw = g.K.Object.WOR
           let pair : (g.K.Object.words w.read_object-key.result, g.V.Object.words w.read_object-value.result) ≡ pair_at kw vw ws n =
           pair_read kw vw g.K.Object.passes g.V.Object.passes (home_layout home) L 0 ws _ c.requires.fit c.requires.key.most c.requires.value.most c.bucket_at-at.result n bucket (omega arith) w.WORDS.result w.WORDS.ensures _ _ key value in
           let pairs : in_words g.K.Object.words g.V.Object.words w.push.new.self.items ≡ pairs_to kw vw ws (suc n) =
-          ap (in_words g.K.Object.words g.V.Object.words) w.in-Ok.ensures.items ∙ (more_in_words g.K.Object.words g.V.Object.words c.loop-place.pairs.items (w.read_object-key.result, w.read_object-value.result)
+          ap (in_words g.K.Object.words g.V.Object.words) w.in_ok-push.ensures.items ∙ (more_in_words g.K.Object.words g.V.Object.words c.loop-place.pairs.items (w.read_object-key.result, w.read_object-value.result)
           ∙ ((λ i. I.pairs i ++ pair i ∷ []) ∙ sym (taken kw vw ws n (λ e. w.if-look-ne0.true (found ∙ e))))) in record {
             view = ap home_view w.home-is ∙ view;
             same = (ap home_id w.home-is ∙ (b.same.0 ∙ (a.same.0 ∙ (same.0 ∙ I.same.0))), ap home_key w.home-is ∙ (b.same.1 ∙ (a.same.1 ∙ (same.1 ∙ I.same.1))), ap home_layout w.home-is ∙ (b.same.2 ∙ (a.same.2 ∙ (same.2 ∙ I.same.2))), ap home_heads w.home-is ∙ (b.same.3 ∙ (a.same.3 ∙ (same.3 ∙ I.same.3))));
             pairs = ap (λ (v : _). in_words g.K.Object.words g.V.Object.words v.items) w.pairs-is ∙ (pairs ∙ ap (pairs_to kw vw ws) (sym next));
-            room = subst (λ (v : _). length (pairs_to kw vw ws (places L)) ≤ vec_capacity v) (sym w.pairs-is) (le_trans I.room w.in-Ok.ensures.capacity);
           }
       | else-look-ne0 w ↦ record {
         view = ap home_view w.home-is ∙ (c.look.ensures.view ∙ I.view);
         same = (ap home_id w.home-is ∙ (same.0 ∙ I.same.0), ap home_key w.home-is ∙ (same.1 ∙ I.same.1), ap home_layout w.home-is ∙ (same.2 ∙ I.same.2), ap home_heads w.home-is ∙ (same.3 ∙ I.same.3));
         pairs = ap (λ (v : _). in_words g.K.Object.words g.V.Object.words v.items) w.pairs-is ∙ (I.pairs ∙ (sym (unused kw vw ws n (sym found ∙ w.if-look-ne0.false)) ∙ ap (pairs_to kw vw ws) (sym next)));
-        room = subst (λ (v : _). length (pairs_to kw vw ws (places L)) ≤ vec_capacity v) (sym w.pairs-is) I.room;
       }
     ]
 

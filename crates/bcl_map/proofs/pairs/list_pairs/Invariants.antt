@@ -10,5 +10,4 @@ invariant-loop-place g l = record {
   view : home_view l.home ≡ home_view l.initial.home;
   same : IsSameHome l.initial.home l.home;
   pairs : in_words g.K.Object.words g.V.Object.words l.pairs.items ≡ pairs_to g.K.Object.WORDS g.V.Object.WORDS (home_words l.initial.home) l.place;
-  room : length (pairs_to g.K.Object.WORDS g.V.Object.WORDS (home_words l.initial.home) (places (home_key l.initial.home))) ≤ vec_capacity l.pairs;
 }

@@ -13,7 +13,7 @@ use Rattle.bcl_map.proofs.Done.{came_through, ends_from, tried}
 use Rattle.bcl_map.proofs.place.place_of.Goals as goal
 
 pub loop-bucket-init : goal.loop-bucket-init
-loop-bucket-init g c = let lead = c.args.lead.now in let k = c.args.key.now in let walk = c.walk_of-walk.ensures in let first = walk.first in let at = walk.at in record {
+loop-bucket-init g c = let lead = c.args.lead.now in let k = c.args.key.now in let walk = c.walk_from-walk.ensures in let first = walk.first in let at = walk.at in record {
   of = c.requires.of;
   at = search rules;
   within = let some = some_places g.K.Object.WORDS g.V.Object.WORDS (lead_heads lead) (lead_layout lead) (lead_key lead) c.requires.shape in omega arith;

@@ -13,18 +13,18 @@ superstep_all-requires-clause-ready g c κs within =
 
 pub passes_of-requires : goal.passes_of-requires
 passes_of-requires g c = record {
-  count = zip_long _ c.in_ok-kits.kits.items _ c.superstep_all.ensures.steps ∙ (c.in_ok-kits.ensures.all ∙ c.in_ok-lead.ensures.all.count);
+  count = zip_long _ c.in_ok-kits.kits.items _ c.superstep_all.ensures.steps ∙ (c.in_ok-kits.ensures.all ∙ c.in_ok-lead.ensures.begins.begins.all.count);
   kits = λ i k at. let was = zip_at _ c.in_ok-kits.kits.items _ c.superstep_all.ensures.steps i k at in let it = c.in_ok-kits.ensures.kits i was.0 was.1 in
       let same = zip_long _ c.in_ok-kits.kits.items _ c.superstep_all.ensures.steps in let all = c.in_ok-kits.ensures.all in let rank = was.2.2 in let turn = it.2 in
       (subst (λ lead. IsIn k.pass.pass lead.lead) it.0 was.2.1, omega arith);
 }
 
 pub find-requires-clause-of : goal.find-requires-clause-of
-find-requires-clause-of g c κs = (last_placed (λ i p. IsIn p.pass c.in_ok-lead-2.lead.lead × ((view p.pass).rank ≡ i)) _ _ _ c.in-Some.ensures.items c.in_ok-lead-2.ensures.all.of).0
+find-requires-clause-of g c κs = (last_placed (λ i p. IsIn p.pass c.in_ok-lead-2.lead.lead × ((view p.pass).rank ≡ i)) _ _ _ c.in-Some.ensures.items c.in_ok-lead-2.ensures.turns.begins.all.of).0
 
 pub end-requires : goal.end-requires
 end-requires g c = record {
-  all = let all = c.in_ok-lead-2.ensures.all in let last = last_placed (λ i p. IsIn p.pass c.in_ok-lead-2.lead.lead × ((view p.pass).rank ≡ i)) _ _ _ c.in-Some.ensures.items all.of in record {
+  all = let all = c.in_ok-lead-2.ensures.turns.begins.all in let last = last_placed (λ i p. IsIn p.pass c.in_ok-lead-2.lead.lead × ((view p.pass).rank ≡ i)) _ _ _ c.in-Some.ensures.items all.of in record {
     count = ap length c.in_ok-push.ensures.items ∙ (length-append _ (_ ∷ []) ∙ (sym (ap length c.in-Some.ensures.items ∙ length-append _ (_ ∷ [])) ∙ all.count));
     of = placed (λ i p. IsIn p.pass c.in_ok-lead-2.lead.lead × ((view p.pass).rank ≡ i)) _ _ _ c.in_ok-push.ensures.items (rest_placed (λ i p. IsIn p.pass c.in_ok-lead-2.lead.lead × ((view p.pass).rank ≡ i)) _ _ _ c.in-Some.ensures.items all.of)
         (c.find-2.ensures.of, c.find-2.ensures.stands.same.same_rank ∙ (c.find.ensures.stands.same.same_rank ∙ last.1));

@@ -15,7 +15,7 @@ passes_of-requires-clause-kits g c i k at = let was = zip_at _ c.in_ok-kits.kits
     (subst (λ lead. IsIn k.pass.pass lead.lead) it.0 was.2.1, omega arith)
 
 pub passes_of-requires-clause-count : goal.passes_of-requires-clause-count
-passes_of-requires-clause-count g c = zip_long _ c.in_ok-kits.kits.items _ c.superstep_all.ensures.steps ∙ (c.in_ok-kits.ensures.all ∙ c.in_ok-lead.ensures.all.count)
+passes_of-requires-clause-count g c = zip_long _ c.in_ok-kits.kits.items _ c.superstep_all.ensures.steps ∙ (c.in_ok-kits.ensures.all ∙ c.in_ok-lead.ensures.begins.begins.all.count)
 
 pub superstep_all-requires-2-clause-ready : goal.superstep_all-requires-2-clause-ready
 superstep_all-requires-2-clause-ready g c κs within = all_at (λ k. IsIn k.pass.pass k.lead.now.lead) c.in_ok-kits-2.kits.items c.in_ok-kits-2.ensures.kits

@@ -12,7 +12,7 @@ superstep_all-requires-clause-ready g c κs within =
 
 pub passes_of-requires : goal.passes_of-requires
 passes_of-requires g c = record {
-  count = zip_long _ c.in_ok-kits.kits.items _ c.superstep_all.ensures.steps ∙ (c.in_ok-kits.ensures.all ∙ c.in_ok-lead.ensures.all.count);
+  count = zip_long _ c.in_ok-kits.kits.items _ c.superstep_all.ensures.steps ∙ (c.in_ok-kits.ensures.all ∙ c.in_ok-lead.ensures.begins.begins.all.count);
   kits = λ i k at. let was = zip_at _ c.in_ok-kits.kits.items _ c.superstep_all.ensures.steps i k at in let it = c.in_ok-kits.ensures.kits i was.0 was.1 in
       let same = zip_long _ c.in_ok-kits.kits.items _ c.superstep_all.ensures.steps in let all = c.in_ok-kits.ensures.all in let rank = was.2.2 in let turn = it.2 in
       (subst (λ lead. IsIn k.pass.pass lead.lead) it.0 was.2.1, omega arith);
