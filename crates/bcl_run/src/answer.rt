@@ -16,7 +16,7 @@ use bcl_phase::Gate;
 use bcl_settings::Settings;
 use bcl_words::NoMemory;
 use kmer_count::{CountPlan, count};
-use kmer_rows::push_rows;
+use kmer_rows::rows_over_ranks;
 use kmer_text::{Kmer, Lines, check_letters, check_nodes};
 use kmer_walk::{plain_contigs, text_of};
 use std::alloc::Global;
@@ -33,12 +33,14 @@ pub(crate) struct Answered {
     pub(crate) book: Book,
 }
 
-/// The text of counts of the lines.
-fn rows_of(
+/// The text of counts of the lines, each rank that of a part of them.
+fn rows_of<H: Threads + Sync>(
+    rt: &H,
     alloc: Global,
     sorted: &[(Kmer, u64)],
     lines: &Lines,
     k: u32,
+    ranks: u32,
     least: u64,
 ) -> Result<Vec<u8>, NoMemory>
     requires k { IsKmerLength k }
@@ -47,9 +49,7 @@ fn rows_of(
     requires counts { AreCounts k lines.now sorted.now }
     ensures text { IfOk result (λ text. text.items ≡ count_text k least lines.now) }
 {
-    let mut text = Vec::new(alloc);
-    push_rows(&mut text, sorted, k, least)?;
-    Ok(text)
+    rows_over_ranks(rt, alloc, sorted, k, least, ranks)
 }
 
 /// The text of a count of the bytes over ranks, and its book.
@@ -79,7 +79,7 @@ fn counted<H: Threads + Sync, G: Gate>(
         windows,
     };
     let counts = count(rt, alloc, &lines, &plan, gate)?;
-    let text = rows_of(alloc, &counts.sorted, &lines, k, min)?;
+    let text = rows_of(rt, alloc, &counts.sorted, &lines, k, ranks, min)?;
     Ok(Answered {
         text,
         book: Book::Count(counts.closed),

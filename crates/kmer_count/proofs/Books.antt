@@ -5,8 +5,7 @@ use Rattle.std.specs.List.Sorted.{IsPermutation}
 use Rattle.std.specs.Option.{option_map}
 use Rattle.std.specs.Str.{bytes_eq}
 use Rattle.std.proofs.lemmas.List.{length-map}
-use Rattle.std.proofs.lemmas.List.Elements.{All-nil, All-cons, All-head, All-tail, All-weaker, All-append, All-map}
-use Rattle.std.proofs.lemmas.List.Sorted.{All-permutation}
+use Rattle.std.proofs.lemmas.List.Elements.{All-nil, All-cons, All-head, All-tail, All-weaker, All-append}
 use Rattle.bcl_words.specs.Numbers.{one_word}
 use Rattle.bcl_merge.specs.Sum.{sum_of}
 use Rattle.bcl_event.specs.declared.event.Event.{Event}
@@ -15,30 +14,21 @@ use Rattle.bcl_event.specs.declared.map.MapReply.{MapReply}
 use Rattle.bcl_event.specs.History.{of, state_after}
 use Rattle.bcl_event.specs.Map.{value_at, map_step}
 use Rattle.bcl_event.specs.Merged.{MapHistory, Merges, merged_by, merged_for, folded}
-use Rattle.bcl_event.proofs.Rooms.{none_full}
 use Rattle.bcl_event.proofs.Folds.{values_are_folds}
 use Rattle.bcl_phase.specs.Phases.{Ended}
-use Rattle.bcl_phase.specs.Rule.{IsPermitted}
 use Rattle.bcl_map.specs.declared.shape.Shape.{Shape}
 use Rattle.bcl_map.specs.Map.{Words, places, owning, home, ranks as ranks_of, first_pairs, next, permits}
+use Rattle.bcl_buffer.proofs.Dealt.{call_of, those_at}
+use Rattle.bcl_buffer.proofs.Homes.{merged_at_home}
 use Rattle.kmer_text.specs.Kmers.{number_of}
 use Rattle.kmer_text.specs.Windows.{all_windows, total}
 use Rattle.kmer_rows.specs.Counts.{times, noted}
 use Rattle.kmer_count.specs.Book.{shape_of, one_more, IsAtHome, CountBook}
 use Rattle.kmer_count.proofs.Times.{times-le-length}
-use Rattle.kmer_count.proofs.Rooms.{room, home_low}
-use Rattle.kmer_count.proofs.Merges.{call_of, those_at, merges_of_all, keys_are_few, each_is}
+use Rattle.kmer_count.proofs.Merges.{each_is}
 
 abbrev Made : Type 0
 Made = Event (MapCall Words Words) (MapReply Words)
-
-both : {X : Type 0} (P Q R : X → Type 0) → ((x : X) → P x → Q x → R x) → (xs : List X) → All P xs → All Q xs → All R xs
-both P Q R gives [] p q = All-nil R
-both P Q R gives (x ∷ xs) p q = All-cons R x xs (gives x (All-head P x xs p) (All-head Q x xs q)) (both P Q R gives xs (All-tail P x xs p) (All-tail Q x xs q))
-
-all_of_map : {X Y : Type 0} (P : Y → Type 0) (f : X → Y) (xs : List X) → All P (map f xs) → All (λ x. P (f x)) xs
-all_of_map P f [] all = All-nil (λ x. P (f x))
-all_of_map P f (x ∷ xs) all = All-cons (λ y. P (f y)) x xs (All-head P (f x) (map f xs) all) (all_of_map P f xs (All-tail P (f x) (map f xs) all))
 
 -- ---- ones that are summed up
 
@@ -82,34 +72,13 @@ module _ (k ranks : ℕ) (lines : List (List ℕ)) where
   abbrev pub home_of : ℕ → ℕ
   home_of q = home shape (one_word q)
 
-  -- ---- the book
-
-  module _ (some : 0 < ranks) (history : MapHistory) (ended : Ended ranks_of first_pairs (next sum_of) permits shape owning [] history)
-      (own : (r : ℕ) → r < ranks → IsPermutation (map one_more (those_at home_of r numbers)) (map call_of (of r history))) where
-    permitted : All (IsPermitted ranks_of permits shape owning) history
-    permitted = subst (All (IsPermitted ranks_of permits shape owning)) (sym ended.since) ended.permitted
-
-    ranked : All (λ e. e.rank < ranks) history
-    ranked = All-weaker (IsPermitted ranks_of permits shape owning) (λ e. e.rank < ranks) (λ e may. may.1) history permitted
-
-    merges : IsPermutation (map one_more numbers) (map call_of history)
-    merges = merges_of_all home_of ranks (λ q. home_low ranks (total k lines) some (one_word q)) numbers history ranked own
-
-    ones : All IsOneMore history
-    ones =
-        all_of_map (λ c. (q : ℕ) × (c ≡ one_more q)) call_of history
-        (All-permutation (λ c. (q : ℕ) × (c ≡ one_more q)) (map one_more numbers) (map call_of history) merges
-        (All-map (λ c. (q : ℕ) × (c ≡ one_more q)) one_more numbers (λ i d low. (_, refl))))
-
-    -- what the home of the end knows of a phase that began with an empty map, in which each rank has merged the numbers whose home it is
-    pub book_of_phase : CountBook k ranks lines history
-    book_of_phase = record {
-      legal = ended.legal;
-      ranked = ranked;
-      none_full = none_full (places shape) sum_of [] history ended.legal (let few = keys_are_few numbers history merges in let long = length-map (all_windows k lines) number_of in let two = room ranks (total k lines) some in omega arith);
-      at_home = both IsOneMore (IsPermitted ranks_of permits shape owning) (IsAtHome shape) (λ e is may. (is.0, is.1, subst (λ c. permits shape owning e.rank c) is.1 may.0)) history ones permitted;
-      each = each_is numbers history merges;
-    }
+  -- what the home of the end knows of a phase that began with an empty map, in which each rank has merged the numbers whose home it is
+  pub book_of_phase : (some : 0 < ranks) (history : MapHistory) → Ended ranks_of first_pairs (next sum_of) permits shape owning [] history
+      → ((r : ℕ) → r < ranks → IsPermutation (map one_more (those_at home_of r numbers)) (map call_of (of r history))) → CountBook k ranks lines history
+  book_of_phase some history ended own =
+      let long = length-map (all_windows k lines) number_of in
+      let merged = merged_at_home one_word (λ (q : ℕ). one_word 1) sum_of 1 ranks (total k lines) some numbers (omega arith) history ended own in
+      record { legal = merged.legal; ranked = merged.ranked; none_full = merged.none_full; at_home = merged.at_home; each = each_is numbers history merged.each }
 
   -- ---- what the map has in the end
 

@@ -1,5 +1,4 @@
 pub mod Times
-pub mod Rooms
 pub mod Merges
 pub mod Books
 pub mod Sorts

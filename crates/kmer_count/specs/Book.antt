@@ -1,6 +1,6 @@
 -- The book of a count by ranks that share a map: the history of the map, in which a one is merged for each place at which a k-mer stands.
 -- Each merge is made by the rank whose home the k-mer is.
-use Rattle.std.specs.Prelude.{◌≡◌, ℕ, ◌+◌, ◌-◌, ◌*◌, ◌/◌, ◌<◌, List, [], All, length, map, max}
+use Rattle.std.specs.Prelude.{◌≡◌, ℕ, ◌<◌, List, [], All, length, map}
 use Rattle.bcl_words.specs.Numbers.{one_word}
 use Rattle.bcl_merge.specs.Sum.{sum_of}
 use Rattle.bcl_event.specs.declared.event.Event.{Event}
@@ -12,16 +12,14 @@ use Rattle.bcl_event.specs.Map.{map_step}
 use Rattle.bcl_event.specs.Merged.{MapHistory, NoneFull, merged_for}
 use Rattle.bcl_map.specs.declared.shape.Shape.{Shape}
 use Rattle.bcl_map.specs.Map.{Words, places, home}
+use Rattle.bcl_map.specs.Room.{shape_for}
 use Rattle.kmer_text.specs.Kmers.{number_of}
 use Rattle.kmer_text.specs.Windows.{all_windows, total}
 use Rattle.kmer_rows.specs.Counts.{times}
 
--- how many buckets each rank has: together at least twice as many as there are windows
-abbrev pub buckets : ℕ → ℕ → ℕ
-buckets ranks windows = max 1 ((2 * windows + (ranks - 1)) / ranks)
-
+-- the map has room for twice as many k-mers as there are windows
 abbrev pub shape_of : ℕ → ℕ → Shape
-shape_of ranks windows = record { ranks = ranks; per_rank = buckets ranks windows; width = 1 }
+shape_of ranks windows = shape_for 1 ranks windows
 
 -- one more of the k-mer that has this number
 abbrev pub one_more : ℕ → MapCall Words Words

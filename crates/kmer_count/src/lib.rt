@@ -5,7 +5,7 @@
 //! (`specs/Book.antt`).
 //!
 //! - `filler`, `filling`: each rank puts a one for each k-mer of its block of lines into its buffer, by `specs/Fills.antt`.
-//! - `phase`: how the map begins its phase, ends it and closes.
+//! - `sorting`: how the pairs of the closed map are sorted.
 //! - `over_ranks`: the count.
 //!
 //! What counts and the text of a count are says `kmer_rows`, which also writes the rows. How lines are dealt says
@@ -15,7 +15,7 @@
 mod filler;
 mod filling;
 mod over_ranks;
-mod phase;
+mod sorting;
 #[cfg(test)]
 mod tests;
 

@@ -11,14 +11,14 @@ ghost use Rattle.bcl_map.specs.Map.{owning};
 ghost use Rattle.bcl_map.specs.Parts.{lead_key, closed_view};
 ghost use Rattle.bcl_buffer.specs.Drains.{shape_in};
 ghost use Rattle.kmer_rows.specs.Counts.{AreCounts};
-ghost use Rattle.kmer_count.specs.Book.{buckets, shape_of, CountBook};
+ghost use Rattle.kmer_count.specs.Book.{shape_of, CountBook};
 ghost use Rattle.kmer_count.specs.Fills.{AreFilled};
 
 use crate::filling::fill;
-use crate::phase::{begun, closed};
+use crate::sorting::sort_by_kmer;
 use bcl_bloom::FilterHome;
 use bcl_buffer::{Buffer, flush};
-use bcl_map::{ClosedMap, MapLead, MapPass};
+use bcl_map::{ClosedMap, MapHome, MapLead, MapPass, begun, buckets_for, closed};
 use bcl_merge::{Merger, Sum, wrapping_sum};
 use bcl_phase::{Gate, Own};
 use bcl_segment::Layout;
@@ -27,6 +27,10 @@ use kmer_text::{Kmer, Lines};
 use std::alloc::Global;
 use std::marker::Sync;
 use std::thread::{Threads, join};
+
+type Lead = MapLead<Kmer, u64, Sum>;
+
+type Pass = MapPass<Own, Kmer, u64, Sum>;
 
 /// What a count is to do: the letters of a k-mer, the ranks, the least count of a k-mer that is answered, and how many
 /// windows the lines have.
@@ -47,23 +51,21 @@ pub struct Counted {
     pub filter: Option<FilterHome<Kmer>>,
 }
 
-// How many buckets each rank has.
-fn buckets_of(ranks: u32, windows: u64) -> u32
-    requires ranks { (1 ≤ ranks) × (ranks ≤ 64) }
-    requires windows { windows ≤ 2 ^ 23 }
-    ensures buckets { result ≡ buckets ranks windows }
-    ensures some { 1 ≤ result }
-    ensures few { ranks * result * 3 ≤ 2 ^ 27 }
+// An empty map of this shape, in a phase under Own.
+fn empty_map(alloc: Global, shape: Layout) -> Result<(Lead, Vec<Pass>), NoMemory>
+    requires ranks { (1 ≤ shape.ranks) × (shape.ranks ≤ 64) }
+    requires buckets { 1 ≤ shape.per_rank }
+    requires words { shape.ranks * shape.per_rank * 3 ≤ 2 ^ 27 }
+    ensures shape { IfOk result (λ r. lead_key r.0 ≡ shape_in 1 shape) }
+    ensures count { IfOk result (λ r. length r.1.items ≡ shape.ranks) }
+    ensures begins { IfOk result (λ r. BeginsAt (λ p. p.pass) owning [] r.0.lead r.1.items) }
 {
-    ((2 * windows as u32 + (ranks - 1)) / ranks).max(1)
+    let home = MapHome::new(alloc, shape.ranks, shape.per_rank)?;
+    begun(alloc, home)
 }
 
 // Buffers that are filled, and the lead and the passes of an empty map in a phase under Own.
-type Prepared = (
-    Vec<Buffer<Kmer, u64>>,
-    MapLead<Kmer, u64, Sum>,
-    Vec<MapPass<Own, Kmer, u64, Sum>>,
-);
+type Prepared = (Vec<Buffer<Kmer, u64>>, Lead, Vec<Pass>);
 
 // The buffers that the ranks fill, and a map that is made meanwhile.
 fn fill_and_begin<H: Threads + Sync, G: Gate>(
@@ -94,7 +96,7 @@ fn fill_and_begin<H: Threads + Sync, G: Gate>(
         ||
             requires { (1 ≤ shape.ranks) × (shape.ranks ≤ 64) × (1 ≤ shape.per_rank) × (shape.ranks * shape.per_rank * 3 ≤ 2 ^ 27) }
             ensures { IfOk result (λ r. (lead_key r.0 ≡ shape_in 1 shape) × (length r.1.items ≡ shape.ranks) × BeginsAt (λ p. p.pass) owning [] r.0.lead r.1.items) }
-        { begun::<Kmer, u64, Sum>(alloc, shape) },
+        { empty_map(alloc, shape) },
     );
     let buffers = filled?;
     let (lead, passes) = begun?;
@@ -118,30 +120,35 @@ fn map_of<H: Threads + Sync, G: Gate>(
 {
     let shape = Layout {
         ranks: plan.ranks,
-        per_rank: buckets_of(plan.ranks, plan.windows),
+        per_rank: buckets_for(plan.ranks, plan.windows as u32),
     };
     let (buffers, lead, passes) = fill_and_begin(rt, alloc, lines, plan.k, shape, gate)?;
     let sum = Merger::new(|a: u64, b: u64| wrapping_sum(a, b));
     let (passes, _) = flush(rt, alloc, &lead, passes, buffers, &sum, gate)?;
-    closed(alloc, lead, passes)
+    closed(alloc, lead.end::<Own>(passes))
 }
 
 // Pairs in the order of their k-mers.
-fn in_order(alloc: Global, pairs: &[(Kmer, u64)]) -> Result<Vec<(Kmer, u64)>, NoMemory>
+fn in_order<H: Threads + Sync>(
+    rt: &H,
+    alloc: Global,
+    pairs: &[(Kmer, u64)],
+    ranks: u32,
+) -> Result<Vec<(Kmer, u64)>, NoMemory>
     ensures moved { IfOk result (λ v. IsPermutation pairs.now v.items) }
     ensures rising { IfOk result (λ v. IsNonDecreasingBy (λ e. e.0) v.items) }
 {
     let mut sorted = pairs.to_vec(alloc)?;
-    sorted.sort_unstable_by_key(|pair| pair.0);
+    sort_by_kmer(rt, sorted.as_mut_slice(), ranks);
     Ok(sorted)
 }
 
 /// Counts the k-mers of lines over ranks that share a map under `Own`: each rank goes through the lines of its block, and
 /// each merges the k-mers whose home it is. Neither the counts nor their order depend on the number of ranks.
 ///
-/// It is a superstep that fills buffers, and those of the flush. It refuses for want of memory alone. Condition: the lines
-/// are of letters alone and have `plan.windows` windows of `plan.k` letters, at most 2^23; there are 1 to 64 ranks; the
-/// minimum is 1.
+/// It is a superstep that fills buffers, those of the flush, and a sort, which takes all processors where there is more
+/// than one rank. It refuses for want of memory alone. Condition: the lines are of letters alone and have `plan.windows`
+/// windows of `plan.k` letters, at most 2^23; there are 1 to 64 ranks; the minimum is 1.
 pub fn count<H: Threads + Sync, G: Gate>(
     rt: &H,
     alloc: Global,
@@ -159,7 +166,7 @@ pub fn count<H: Threads + Sync, G: Gate>(
     ensures filter { IfOk result (λ c. c.filter ≡ None) }
 {
     let closed = map_of(rt, alloc, lines, plan, gate)?;
-    let sorted = in_order(alloc, closed.entries())?;
+    let sorted = in_order(rt, alloc, closed.entries(), plan.ranks)?;
     Ok(Counted {
         sorted,
         closed,

@@ -1,5 +1,6 @@
 pub mod Ranges
 pub mod Numbers
+pub mod Fours
 pub mod AllWords
 pub mod Runs
 pub mod Cuts

@@ -1,8 +1,8 @@
 -- Words and their numbers determine each other.
 use Rattle.std.proofs.Common.{◌≡◌, ◌∙◌, ℕ, zero, suc, ◌+◌, ◌*◌, ◌/◌, ◌%◌, ◌^◌, ◌<◌, ◌≤◌, true, List, [], ◌∷◌, ◌++◌, length, eqb, arith, sym, ap, refl, subst, ⊎_elim, length-append}
-use Rattle.std.proofs.Math.Nat.{pow-succ', pow-le-pow_right, add-mul-div_right, add-mul-mod_self_right, mod-eq_of_lt, mod-lt, div-lt_iff_lt-mul, mul-le-mul_right}
+use Rattle.std.proofs.Math.Nat.{pow-succ', pow-le-pow_right, add-mul-div_right, add-mul-mod_self_right, mod-eq_of_lt, mod-lt, div-lt_iff_lt-mul, div-div-eq-div-mul, mul-le-mul_right}
 use Rattle.std.proofs.lemmas.Bool.{cond_both, eqb-true, or_cases, and_parts, cases_eq}
-use Rattle.std.proofs.lemmas.Nat.{div-mul-add, div-add-mod', mod-mul-add}
+use Rattle.std.proofs.lemmas.Nat.{div-mul-add, div-add-mod', mod-mul-add, pow-add}
 use Rattle.kmer_text.specs.Kmers.{digit_of, letter_of, number_of, word_of}
 use Rattle.kmer_text.specs.Letters.{is_letter, are_letters}
 
@@ -50,7 +50,7 @@ length-word_of zero n = refl
 length-word_of (suc k) n = ap suc (length-word_of k n)
 
 -- more letters in front change none of the last k
-word_of-front : (k n m : ℕ) → word_of k (n * 4 ^ k + m) ≡ word_of k m
+pub word_of-front : (k n m : ℕ) → word_of k (n * 4 ^ k + m) ≡ word_of k m
 word_of-front zero n m = refl
 word_of-front (suc k) n m =
     let F = 4 ^ k in
@@ -62,6 +62,16 @@ word_of-front (suc k) n m =
     ap (λ y. y / F % 4) same ∙ (ap (λ y. y % 4) (add-mul-div_right m (n * 4) (four-pos k)) ∙ add-mul-mod_self_right (m / F) n 4) in
     ap (λ d. letter_of d ∷ word_of k x) first
     ∙ ap (λ w. letter_of (m / F % 4) ∷ w) (ap (word_of k) (same ∙ other) ∙ word_of-front k (n * 4) m)
+
+-- the first j letters, and the k behind them
+pub word_of-append : (j k n : ℕ) → word_of (j + k) n ≡ word_of j (n / 4 ^ k) ++ word_of k n
+word_of-append zero k n = let none : zero + k ≡ k = omega arith in ap (λ m. word_of m n) none
+word_of-append (suc j) k n =
+    let more : suc j + k ≡ suc (j + k) = omega arith in
+    let turned : j + k ≡ k + j = omega arith in
+    let place : n / 4 ^ (j + k) ≡ n / 4 ^ k / 4 ^ j = ap (λ m. n / 4 ^ m) turned ∙ (ap (λ m. n / m) (pow-add 4 k j) ∙ sym (div-div-eq-div-mul n (4 ^ k) (4 ^ j))) in
+    ap (λ m. word_of m n) more
+    ∙ (ap (λ q. letter_of (q % 4) ∷ word_of (j + k) n) place ∙ ap (λ w. letter_of (n / 4 ^ k / 4 ^ j % 4) ∷ w) (word_of-append j k n))
 
 -- the word of a number whose first digit is d
 pub word_of-split : (k d m : ℕ) → d < 4 → m < 4 ^ k → word_of (suc k) (d * 4 ^ k + m) ≡ letter_of d ∷ word_of k m

@@ -22,13 +22,18 @@ pub enum LetterFault {
 pub(crate) fn is_letter(byte: u8) -> bool
     ensures { result ≡ is_letter byte }
 {
-    matches!(byte, b'A' | b'C' | b'G' | b'T')
+    (byte == b'A') | (byte == b'C') | (byte == b'G') | (byte == b'T')
 }
 
+// It goes on behind a byte that is none, so that no branch hangs on a byte, and several are asked at once.
 pub(crate) fn are_letters(line: &[u8]) -> bool
     ensures { result ≡ are_letters line.now }
 {
-    line.iter().all(|byte| is_letter(*byte))
+    let mut all = true;
+    for byte in line {
+        all &= is_letter(*byte);
+    }
+    all
 }
 
 /// How many windows of `k` letters a line has.

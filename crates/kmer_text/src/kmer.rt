@@ -1,6 +1,6 @@
 //! A word of K letters as a number.
 
-ghost use Rattle.std.specs.Prelude.{◌≡◌, ℕ, ◌+◌, ◌*◌, ◌/◌, ◌%◌, ◌^◌, ◌<◌, ◌≤◌, true, length, slice_range, IsTrue};
+ghost use Rattle.std.specs.Prelude.{◌≡◌, ℕ, ◌+◌, ◌*◌, ◌/◌, ◌%◌, ◌^◌, ◌<◌, ◌≤◌, ◌++◌, true, length, drop, slice_range, IsTrue};
 ghost use Rattle.kmer_text.specs.Letters.{are_letters};
 ghost use Rattle.kmer_text.specs.Kmers.{IsKmerLength, digit_of, letter_of, number_of, word_of};
 
@@ -88,16 +88,70 @@ impl Kmer {
     }
 }
 
-/// Writes the word of a number, with as many letters as there is room for.
+/// The words of four letters, one after another in byte order. Those of a row begin with the same two letters.
+static FOURS: [u8; 1024] = *b"\
+       AAAAAAACAAAGAAATAACAAACCAACGAACTAAGAAAGCAAGGAAGTAATAAATCAATGAATT\
+       ACAAACACACAGACATACCAACCCACCGACCTACGAACGCACGGACGTACTAACTCACTGACTT\
+       AGAAAGACAGAGAGATAGCAAGCCAGCGAGCTAGGAAGGCAGGGAGGTAGTAAGTCAGTGAGTT\
+       ATAAATACATAGATATATCAATCCATCGATCTATGAATGCATGGATGTATTAATTCATTGATTT\
+       CAAACAACCAAGCAATCACACACCCACGCACTCAGACAGCCAGGCAGTCATACATCCATGCATT\
+       CCAACCACCCAGCCATCCCACCCCCCCGCCCTCCGACCGCCCGGCCGTCCTACCTCCCTGCCTT\
+       CGAACGACCGAGCGATCGCACGCCCGCGCGCTCGGACGGCCGGGCGGTCGTACGTCCGTGCGTT\
+       CTAACTACCTAGCTATCTCACTCCCTCGCTCTCTGACTGCCTGGCTGTCTTACTTCCTTGCTTT\
+       GAAAGAACGAAGGAATGACAGACCGACGGACTGAGAGAGCGAGGGAGTGATAGATCGATGGATT\
+       GCAAGCACGCAGGCATGCCAGCCCGCCGGCCTGCGAGCGCGCGGGCGTGCTAGCTCGCTGGCTT\
+       GGAAGGACGGAGGGATGGCAGGCCGGCGGGCTGGGAGGGCGGGGGGGTGGTAGGTCGGTGGGTT\
+       GTAAGTACGTAGGTATGTCAGTCCGTCGGTCTGTGAGTGCGTGGGTGTGTTAGTTCGTTGGTTT\
+       TAAATAACTAAGTAATTACATACCTACGTACTTAGATAGCTAGGTAGTTATATATCTATGTATT\
+       TCAATCACTCAGTCATTCCATCCCTCCGTCCTTCGATCGCTCGGTCGTTCTATCTCTCTGTCTT\
+       TGAATGACTGAGTGATTGCATGCCTGCGTGCTTGGATGGCTGGGTGGTTGTATGTCTGTGTGTT\
+       TTAATTACTTAGTTATTTCATTCCTTCGTTCTTTGATTGCTTGGTTGTTTTATTTCTTTGTTTT";
+
+/// Writes the last four letters of a number.
+fn write_four(bits: u64, out: &mut [u8], at: usize)
+    requires { at + 4 ≤ length out.old }
+    ensures written { drop at out.new ≡ word_of 4 bits ++ drop (at + 4) out.old }
+    ensures length { length out.new ≡ length out.old }
+{
+    let from = (bits % 256) as usize * 4;
+    let (a, b, c, d) = (
+        FOURS[from],
+        FOURS[from + 1],
+        FOURS[from + 2],
+        FOURS[from + 3],
+    );
+    out[at + 3] = d;
+    out[at + 2] = c;
+    out[at + 1] = b;
+    out[at] = a;
+}
+
+/// Writes the last letters of a number in front of a place, as many as there is room for.
+fn write_before(bits: u64, out: &mut [u8], end: usize)
+    requires { end ≤ length out.old }
+    ensures { out.new ≡ word_of end bits ++ drop end out.old }
+{
+    let mut rest = bits;
+    let mut left = end;
+    while left > 0 {
+        left -= 1;
+        out[left] = letter(rest % 4);
+        rest /= 4;
+    }
+}
+
+/// Writes the word of a number, with as many letters as there is room for: four at a time from the last on, and then those
+/// that are left in front.
 fn write_word(bits: u64, out: &mut [u8])
     requires { length out.old ≤ 31 }
     ensures { out.new ≡ word_of (length out.old) bits }
 {
     let mut rest = bits;
     let mut left = out.len();
-    while left > 0 {
-        left -= 1;
-        out[left] = letter(rest % 4);
-        rest /= 4;
+    while left >= 4 {
+        left -= 4;
+        write_four(rest, out, left);
+        rest /= 256;
     }
+    write_before(rest, out, left);
 }

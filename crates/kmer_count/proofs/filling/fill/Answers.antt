@@ -5,9 +5,10 @@ use Rattle.bcl_phase.proofs.Returns.{if_both}
 use Rattle.kmer_text.specs.Kmers.{IsKmerLength}
 use Rattle.kmer_text.specs.Letters.{are_letters}
 use Rattle.bcl_buffer.specs.declared.buffer.State.TheVariants.{Filling}
+use Rattle.bcl_buffer.proofs.Shares.{within}
 use Rattle.kmer_count.specs.Fills.{AreFilled}
 use Rattle.kmer_count.specs.declared.filler.Filler.{Filler}
-use Rattle.kmer_count.proofs.Shares.{within, are_filled}
+use Rattle.kmer_count.proofs.Shares.{are_filled}
 use Rattle.kmer_count.proofs.filling.fill.Goals as goal
 
 pub superstep_all-requires-clause-ready : goal.superstep_all-requires-clause-ready

@@ -5,7 +5,8 @@ use Rattle.kmer_text.proofs.kmer.write_word.Given as goal
 -- the letters from a place on are written, and the number of those before it is left
 abbrev pub invariant-loop-left : goal.invariant-loop-left
 invariant-loop-left l = record {
-  in_range : l.left ≤ length l.out;
+  same : length l.out ≡ length l.fn.out;
+  place : l.left ≤ length l.out;
   number : l.rest ≡ l.bits / 4 ^ (length l.out - l.left);
   written : drop l.left l.out ≡ word_of (length l.out - l.left) l.bits;
 }
