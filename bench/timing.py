@@ -20,6 +20,9 @@ BCL = os.path.join(TOP, "bcl")
 ROUNDS = 3
 BEST = f"seconds, best of {ROUNDS}"
 
+# Pages of memory, and whether the C library asks for large ones.
+PAGES = {"large": 1, "small": 0}
+
 Way = collections.namedtuple("Way", "name timed line")
 Run = collections.namedtuple("Run", "seconds peak")
 
@@ -38,6 +41,14 @@ def built():
     """The program behind the front door, so that what the door itself costs isn't timed."""
     programs = glob.glob(f"{TOP}/crates/bcl_cli/out/proved/*/bcl")
     return programs[0] if len(programs) == 1 else BCL
+
+
+def over_ranks(words, ranks, pages, given):
+    """The built program on these words by so many ranks, from a file to its own."""
+    name = f"bcl.{ranks}.{pages}"
+    # (`exec` leaves the shell's process to the program, whose memory is measured)
+    line = f'GLIBC_TUNABLES=glibc.malloc.hugetlb={PAGES[pages]} exec "$BUILT" {words} --ranks {ranks}'
+    return Way(name, f"bcl {words} --ranks {ranks}, {pages} pages", f"{line} <{given} >{name}")
 
 
 def run(way, folder):

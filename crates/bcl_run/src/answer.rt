@@ -1,4 +1,4 @@
-//! The text that an input asks for with the book of its count, or why it is refused.
+//! The text that an input asks for with its book, or why it is refused.
 
 ghost use Rattle.std.specs.Prelude.{◌≡◌, ◌^◌, ◌<◌, ◌≤◌, length, All, IsTrue, IfOk, IfErr, Some};
 ghost use Rattle.kmer_text.specs.Kmers.{IsKmerLength};
@@ -7,7 +7,7 @@ ghost use Rattle.kmer_rows.specs.Count.{count_text};
 ghost use Rattle.kmer_rows.specs.Counts.{AreCounts};
 ghost use Rattle.bcl_run.specs.Verdict.{Text, counted, walked, verdict};
 ghost use Rattle.bcl_settings.specs.Settings.{IsAsked};
-ghost use Rattle.bcl_run.specs.Book.{IsCountOf, IsBookOf};
+ghost use Rattle.bcl_run.specs.Book.{IsCountOf, IsNodesOf, IsBookOf};
 ghost use Rattle.bcl_run.specs.Owed.{Excuses};
 
 use crate::Book;
@@ -18,7 +18,7 @@ use bcl_words::NoMemory;
 use kmer_count::{CountPlan, count};
 use kmer_rows::rows_over_ranks;
 use kmer_text::{Kmer, Lines, check_letters, check_nodes};
-use kmer_walk::{plain_contigs, text_of};
+use kmer_walk::{contigs, text_of};
 use std::alloc::Global;
 use std::marker::Sync;
 use std::thread::Threads;
@@ -86,24 +86,33 @@ fn counted<H: Threads + Sync, G: Gate>(
     })
 }
 
-/// The contigs of the bytes, one a line.
-fn walked(alloc: Global, k: u32, bytes: Vec<u8>) -> Result<Answered, Stop>
+/// The contigs of the bytes over ranks, one a line, and their book.
+fn walked<H: Threads + Sync, G: Gate>(
+    rt: &H,
+    alloc: Global,
+    k: u32,
+    ranks: u32,
+    bytes: Vec<u8>,
+    gate: &G,
+) -> Result<Answered, Stop>
     requires k { IsKmerLength k }
+    requires ranks { (1 ≤ ranks) × (ranks ≤ 64) }
     requires short { length bytes.items ≤ 2 ^ 26 }
     ensures text { IfOk result (λ a. walked k bytes.items ≡ Text a.text.items) }
-    ensures book { IfOk result (λ a. a.book ≡ Book.None) }
+    ensures book { IfOk result (λ a. IsNodesOf k ranks bytes.items a.book) }
     ensures stop { IfErr result (Excuses (walked k bytes.items)) }
 {
     let lines = Lines::cut(alloc, bytes)?;
     check_nodes(&lines, k)?;
-    let texts = plain_contigs(alloc, &lines, k)?;
+    let found = contigs(rt, alloc, &lines, k, ranks, gate)?;
+    let text = text_of(alloc, &found.texts)?;
     Ok(Answered {
-        text: text_of(alloc, &texts)?,
-        book: Book::None,
+        text,
+        book: Book::Nodes(found.closed),
     })
 }
 
-/// The text that the settings ask for of these bytes, and the book of its count.
+/// The text that the settings ask for of these bytes, and its book.
 pub(crate) fn answer<H: Threads + Sync, G: Gate>(
     rt: &H,
     alloc: Global,
@@ -119,7 +128,7 @@ pub(crate) fn answer<H: Threads + Sync, G: Gate>(
 {
     match *settings {
         Settings::Count { k, ranks, min, .. } => counted(rt, alloc, k, ranks, min, bytes, gate),
-        Settings::Contigs { k, .. } => walked(alloc, k, bytes),
+        Settings::Contigs { k, ranks, .. } => walked(rt, alloc, k, ranks, bytes, gate),
         Settings::Drill { .. } => unreachable!(),
     }
 }

@@ -1,11 +1,11 @@
 //! The program: from the words of a command line and an input to a text and a status.
 //!
 //! Its one contract for the layer above is that of `top`: whenever the status is 0, what was written is the stated
-//! function of the words and of all that the source had left, and the book of the shared map is that of a count of it; and
-//! each other status says why nothing more was written.
+//! function of the words and of all that the source had left, and the book of the shared map is that of a count of it or of
+//! its contigs; and each other status says why nothing more was written.
 //!
 //! - `program`: `top`, the whole program over its devices.
-//! - `answer`: the text that an input asks for with the book of its count, or why it is refused.
+//! - `answer`: the text that an input asks for with its book, or why it is refused.
 //! - `book`: the book of a run.
 //!
 //! What the words ask for says `bcl_settings`, and what is said of a run without a text `bcl_message`.

@@ -68,9 +68,9 @@ fn stopped<E: Sink>(err: &mut E, stop: Stop) -> Ended
 
 /// Runs the program on the words behind its name.
 ///
-/// It reads `src` to its end, writes the text to `out`, and ends with a status and the book of its count. With a status
-/// other than 0 it writes a message to `err`, and there is no book. `rt` starts a thread for each rank of a count, and each
-/// rank passes `gate` as it enters a superstep.
+/// It reads `src` to its end, writes the text to `out`, and ends with a status and its book. With a status other than 0 it
+/// writes a message to `err`, and there is no book. `rt` starts a thread for each rank, and each rank passes `gate` as it
+/// enters a superstep.
 pub fn top<H: Threads + Sync, S: Source, O: Sink, E: Sink, G: Gate>(
     rt: &H,
     alloc: Global,

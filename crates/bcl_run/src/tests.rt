@@ -84,6 +84,10 @@ const SAMPLE: &[u8] = b"ACGT\nCGTA\n";
 
 const SAMPLE_TEXT: &[u8] = b"ACG\t1\nCGT\t2\nGTA\t1\n";
 
+const NODES: &[u8] = b"ACG\tFT\nCGT\tAA\nGTA\tCF\n";
+
+const NODES_TEXT: &[u8] = b"ACGTA\n";
+
 const USAGE: &str = "usage: bcl count K [--ranks N] [--min M] [--promise own|any] [--hist]
        bcl contigs K [--ranks N] [--promise own|any]
        bcl drill NUMBER LINES K [--ranks N] [--promise own|any]
@@ -141,10 +145,7 @@ fn bad_input_is_refused_unwritten_and_its_line_named(rt: HostRuntime) -> Result<
 #[test]
 fn contigs_are_written_in_byte_order(rt: HostRuntime) -> Result<(), Fail> {
     let cases = [
-        (
-            b"ACG\tFT\nCGT\tAA\nGTA\tCF\n".as_slice(),
-            b"ACGTA\n".as_slice(),
-        ),
+        (NODES, NODES_TEXT),
         (b"AAA\tFA\n", b"AAA\n"),
         (b"ACG\tFT\n", b"ACG\n"),
         (b"ACG\tFT\r\n\nACG\tFT", b"ACG\n"),
@@ -195,6 +196,8 @@ fn other_words_get_the_usage(rt: HostRuntime) -> Result<(), Fail> {
         "contigs",
         "contigs 32",
         "contigs 3 --min 2",
+        "contigs 3 --promise own",
+        "contigs 3 --ranks 65",
         "count 3 --min 0",
         "count 3 --ranks=2",
         "count 3 --promise",

@@ -112,6 +112,18 @@ plan_asked words k ranks min choice hist p = plan_mode p.mode p.said k ranks min
 pub contigs_asked : (words : List (List ℕ)) (k ranks : ℕ) (choice : Choice) → AsksFor words (Contigs k ranks choice) → (1 ≤ k) × (k ≤ 31)
 contigs_asked words k ranks choice p = contigs_mode p.mode p.said k ranks choice p.spelled.in_range p.offered p.settings_are
 
+-- contigs have their ranks
+contigs_plan_mode : (mode : Mode) (said : Options) (k ranks : ℕ) (choice : Choice) → IsOffered mode said → (1 ≤ unwrap_or said.ranks 4) × (unwrap_or said.ranks 4 ≤ 64)
+    → with_options mode said ≡ Some (Contigs k ranks choice) → (1 ≤ ranks) × (ranks ≤ 64)
+contigs_plan_mode (modes.Count j) said k ranks choice offered some e = let differ : 1 ≡ 2 = told mode_number _ _ e in absurd (omega (arith, differ))
+contigs_plan_mode (modes.Contigs j) said k ranks choice offered some e =
+    let same : unwrap_or said.ranks 4 ≡ ranks = told_if ranks_of (is_some said.min || said.hist) _ _ e in
+    (subst (λ (n : ℕ). 1 ≤ n) same some.0, subst (λ (n : ℕ). n ≤ 64) same some.1)
+contigs_plan_mode (modes.Drill number lines j) said k ranks choice offered some e = absurd offered
+
+pub contigs_plan_asked : (words : List (List ℕ)) (k ranks : ℕ) (choice : Choice) → AsksFor words (Contigs k ranks choice) → (1 ≤ ranks) × (ranks ≤ 64)
+contigs_plan_asked words k ranks choice p = contigs_plan_mode p.mode p.said k ranks choice p.offered (some_ranks p.spelled.behind p.said p.spelled.options_are) p.settings_are
+
 -- no words ask for a drill yet
 pub drill_unasked : (words : List (List ℕ)) (number lines k ranks : ℕ) (choice : Choice) → AsksFor words (Drill number lines k ranks choice) → ⊥
 drill_unasked words number lines k ranks choice p = drill_mode p.mode p.said number lines k ranks choice p.offered p.settings_are

@@ -9,7 +9,7 @@ use Rattle.bcl_settings.specs.declared.settings.Settings.{Settings}
 use Rattle.bcl_settings.specs.declared.settings.Settings.TheVariants.{Count, Contigs, Drill}
 use Rattle.bcl_settings.specs.declared.settings.Choice.{Choice}
 use Rattle.bcl_settings.specs.declared.settings.Choice.TheVariants.{Own, Any}
-use Rattle.bcl_settings.specs.Options.{options, NamesOptions}
+use Rattle.bcl_settings.specs.Options.{NamesOptions}
 
 -- the words of a mode and its numbers
 abbrev pub mode_words : Mode → List (List ℕ)
@@ -42,10 +42,10 @@ pub record Spells (words : List (List ℕ)) (mode : Mode) (said : Options) : Typ
 abbrev pub SaysRanksAlone : Options → Type 0
 SaysRanksAlone said = (said.min ≡ None) × (said.choice ≡ None) × (said.hist ≡ false)
 
--- what is offered so far: a count with its ranks, and contigs without options
+-- what is offered so far: a count and contigs, each with its ranks
 abbrev pub IsOffered : Mode → Options → Type 0
 IsOffered (modes.Count k) said = SaysRanksAlone said
-IsOffered (modes.Contigs k) said = options said ≡ []
+IsOffered (modes.Contigs k) said = SaysRanksAlone said
 IsOffered (modes.Drill number lines k) said = ⊥
 
 -- the words ask for these settings

@@ -99,8 +99,7 @@ impl Mode {
         ensures no { IsOffered self said → IsTrue result }
     {
         match self {
-            Mode::Count { .. } => said.says_ranks_alone(),
-            Mode::Contigs { .. } => said.is_empty(),
+            Mode::Count { .. } | Mode::Contigs { .. } => said.says_ranks_alone(),
             Mode::Drill { .. } => false,
         }
     }

@@ -83,14 +83,6 @@ impl Options {
         hist: false,
     };
 
-    /// Whether none is said.
-    pub(crate) fn is_empty(self) -> bool
-        ensures yes { IsTrue result → options self ≡ [] }
-        ensures no { options self ≡ [] → IsTrue result }
-    {
-        self.ranks.is_none() && self.min.is_none() && self.choice.is_none() && !self.hist
-    }
-
     /// Whether none is said but the ranks, or none at all.
     pub(crate) fn says_ranks_alone(self) -> bool
         ensures yes { IsTrue result → SaysRanksAlone self }

@@ -56,7 +56,7 @@ pub(crate) fn spelled(words: &[String]) -> Option<(Mode, Options)>
     Some((mode, options_in(rest)?))
 }
 
-/// Reads the words behind the program's name: so far `count K`, with `--ranks N` behind it or not, or `contigs K`, with K
+/// Reads the words behind the program's name: so far `count K` or `contigs K`, with `--ranks N` behind it or not, with K
 /// from 1 to 31 and N from 1 to 64. Each other list of words asks for nothing.
 pub fn settings_of(words: &[String]) -> Option<Settings>
     ensures { Reads (map string_bytes words.now) result }

@@ -66,13 +66,32 @@ fn a_count_has_its_ranks(rt: HostRuntime) -> Result<(), Fail> {
 }
 
 #[test]
+fn contigs_have_their_ranks(rt: HostRuntime) -> Result<(), Fail> {
+    let alloc = rt.alloc();
+    for ranks in [1, 64] {
+        let ranked = Settings::Contigs {
+            k: 21,
+            ranks,
+            choice: Choice::Own,
+        };
+        let line = format!(in alloc; "contigs 21 --ranks {ranks}")?;
+        assert_eq!(rt; asked(alloc, &line)?, Some(ranked));
+    }
+    assert_eq!(rt; asked(alloc, "contigs 21 --ranks 4")?, Some(CONTIGS));
+    assert!(rt; !names_any(&words_of(alloc, "contigs 21 --ranks 64")?));
+    assert!(rt; !names_any(&words_of(alloc, "contigs 21 --promise any")?));
+    Ok(())
+}
+
+#[test]
 fn no_other_option_is_offered_yet(rt: HostRuntime) -> Result<(), Fail> {
     let lines = [
         "count 21 --min 1",
         "count 21 --ranks 4 --min 1",
         "count 21 --promise own",
         "count 21 --hist",
-        "contigs 21 --ranks 4",
+        "contigs 21 --promise own",
+        "contigs 21 --ranks 4 --promise own",
         "drill 0 1 21",
     ];
     for line in lines {
@@ -147,6 +166,10 @@ fn other_words_mean_nothing(rt: HostRuntime) -> Result<(), Fail> {
         "--ranks 2 count 3",
         "contigs 3 --min 2",
         "contigs 3 --hist",
+        "contigs 3 --ranks 0",
+        "contigs 3 --ranks 65",
+        "contigs 3 --ranks 2 --ranks 2",
+        "contigs --ranks 2 3",
         "drill 1 2",
         "drill 01 2 3",
         "drill 1 0 3",

@@ -14,7 +14,7 @@ use Rattle.std.proofs.lemmas.List.Sums.{sum_by-cons}
 use Rattle.std.proofs.lemmas.List.Sorted.{ranks_by, sorted_far, sum_by-IsPermutation, IsPermutation-map, IsPermutation-refl, IsPermutation-trans, IsPermutation-cons, IsPermutation-swap}
 use Rattle.std.proofs.lemmas.Map.Lookups.{exact_bytes}
 use Rattle.kmer_paths.specs.Contigs.{insert_text, in_byte_order}
-use Rattle.kmer_paths.proofs.Starts.{bytes_of, bytes-append}
+use Rattle.kmer_paths.proofs.Bytes.{bytes_of, bytes-append}
 
 -- ---- the order of texts
 abbrev before : List ℕ → List ℕ → Bool

@@ -4,6 +4,5 @@ pub mod Repeats
 pub mod Paths
 pub mod Walks
 pub mod NextKeys
-pub mod Walking
-pub mod Starts
+pub mod Bytes
 pub mod ByteOrder

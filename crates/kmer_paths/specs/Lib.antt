@@ -1,4 +1,3 @@
 pub mod Keys
 pub mod Walks
 pub mod Contigs
-pub mod Nexts

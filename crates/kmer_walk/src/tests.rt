@@ -1,54 +1,90 @@
-//! Worked examples of first lines, conflicts and contigs.
+//! Worked examples of conflicts and contigs.
 
+ghost use Rattle.std.specs.Prelude.{◌≤◌};
 ghost use Rattle.kmer_text.specs.Kmers.{IsKmerLength};
 
-use crate::{WalkFault, firsts_of, plain_contigs, text_of};
+use crate::{WalkFault, Walked, contigs, text_of};
+use bcl_phase::Always;
 use bcl_words::NoMemory;
 use kmer_text::{Kmer, Lines, check_nodes};
 use std::alloc::Global;
+use std::marker::Sync;
 use std::test::Fail;
+use std::thread::Threads;
 
-/// The place of the first line of `ACG`, or why there is none.
-fn first_of(alloc: Global, text: &[u8]) -> Result<Result<Option<u32>, WalkFault>, Fail> {
+/// The contigs of a text over so many ranks, or why there are none.
+fn walked_over<H: Threads + Sync>(
+    rt: &H,
+    alloc: Global,
+    text: &[u8],
+    k: u32,
+    ranks: u32,
+) -> Result<Result<Walked, WalkFault>, Fail>
+    requires k { IsKmerLength k }
+    requires ranks { (1 ≤ ranks) × (ranks ≤ 64) }
+{
     let lines = Lines::cut(alloc, text.to_vec(alloc)?)?;
-    check_nodes(&lines, 3)?;
-    match firsts_of(alloc, &lines, 3) {
-        Ok(firsts) => Ok(Ok(firsts.get(&Kmer { bits: 6 }).copied())),
+    check_nodes(&lines, k)?;
+    match contigs(rt, alloc, &lines, k, ranks, &Always) {
         Err(WalkFault::NoMemory) => Err(NoMemory.into()),
-        Err(fault) => Ok(Err(fault)),
+        walked => Ok(walked),
     }
 }
 
+/// The contigs of a text, one a line.
+fn contigs_over<H: Threads + Sync>(
+    rt: &H,
+    alloc: Global,
+    text: &[u8],
+    k: u32,
+    ranks: u32,
+) -> Result<Vec<u8>, Fail>
+    requires k { IsKmerLength k }
+    requires ranks { (1 ≤ ranks) × (ranks ≤ 64) }
+{
+    let walked = walked_over(rt, alloc, text, k, ranks)??;
+    Ok(text_of(alloc, &walked.texts)?)
+}
+
 #[test]
-fn the_first_line_of_a_key_is_its_node(rt: HostRuntime) -> Result<(), Fail> {
+fn the_first_line_that_conflicts_is_named(rt: HostRuntime) -> Result<(), Fail> {
     let cases = [
-        (
-            b"ACG\tFT\nACG\tFT\nACG\tFA\n".as_slice(),
-            Err(WalkFault::Conflict(3)),
-        ),
-        (b"ACG\tFT\nACG\tFT\n", Ok(Some(0))),
-        (
-            b"\nCGT\tAA\nACG\tCT\n\nACG\tGT\nCGT\tAC\n",
-            Err(WalkFault::Conflict(5)),
-        ),
-        (b"\nCGT\tAA\nACG\tCT\n\nACG\tCT\n", Ok(Some(2))),
-        (b"CGT\tAA\nGTA\tCF\n", Ok(None)),
-        (b"", Ok(None)),
+        (b"ACG\tFT\nACG\tFT\nACG\tFA\n".as_slice(), 3),
+        (b"\nCGT\tAA\nACG\tCT\n\nACG\tGT\nCGT\tAC\n", 5),
+        // one extension differs
+        (b"ACG\tFT\nACG\tCT\n", 2),
+        (b"ACG\tFT\nACG\tFG\n", 2),
+        // the third line agrees with the second, and not with the first
+        (b"ACG\tFT\nACG\tFA\nACG\tFA\n", 2),
+        // a line of each block conflicts
+        (b"ACG\tFT\nCGT\tAA\nACG\tFC\nCGT\tAC\nACG\tFA\nCGT\tAG\n", 3),
     ];
-    for (text, first) in cases {
-        assert_eq!(rt; first_of(rt.alloc(), text)?, first, "in {text:?}");
+    for (text, line) in cases {
+        for ranks in 1..8 {
+            match walked_over(&rt, rt.alloc(), text, 3, ranks)? {
+                Ok(_) => assert!(rt; false, "in {text:?}"),
+                Err(fault) => assert_eq!(rt; fault, WalkFault::Conflict(line), "in {text:?}"),
+            }
+        }
     }
     Ok(())
 }
 
-/// The contigs of a text, one a line.
-fn contigs_in(alloc: Global, text: &[u8], k: u32) -> Result<Vec<u8>, Fail>
-    requires { IsKmerLength k }
-{
-    let lines = Lines::cut(alloc, text.to_vec(alloc)?)?;
-    check_nodes(&lines, k)?;
-    let texts = plain_contigs(alloc, &lines, k)?;
-    Ok(text_of(alloc, &texts)?)
+#[test]
+fn the_map_keeps_the_first_line_of_each_key(rt: HostRuntime) -> Result<(), Fail> {
+    let text = b"\nCGT\tAA\nACG\tCT\n\nACG\tCT\nCGT\tAA\n";
+    for ranks in 1..8 {
+        let walked = walked_over(&rt, rt.alloc(), text, 3, ranks)??;
+        let pairs = walked.closed.entries();
+        assert_eq!(rt; pairs.len(), 2);
+        for (key, node) in pairs {
+            // ACG and CGT, as numbers to the base 4
+            let line = if key.bits == 6 { 3 } else { 2 };
+            assert!(rt; key.bits == 6 || key.bits == 27);
+            assert_eq!(rt; node.line, line);
+        }
+    }
+    Ok(())
 }
 
 #[test]
@@ -76,8 +112,10 @@ fn contigs_are_walked_from_each_start(rt: HostRuntime) -> Result<(), Fail> {
         (b"", b""),
     ];
     for (text, contigs) in cases {
-        let found = contigs_in(rt.alloc(), text, 3)?;
-        assert_eq!(rt; found.as_slice(), contigs, "in {text:?}");
+        for ranks in [1, 2, 3, 4, 64] {
+            let found = contigs_over(&rt, rt.alloc(), text, 3, ranks)?;
+            assert_eq!(rt; found.as_slice(), contigs, "in {text:?}");
+        }
     }
     Ok(())
 }
@@ -128,7 +166,9 @@ fn ten_thousand_nodes_give_their_chains(rt: HostRuntime) -> Result<(), Fail> {
     assert_eq!(rt; nodes.len(), 230_000);
     let front = b"TAAAAAAAAATAAAAAAAACTAAAAAAAAG".as_slice();
     assert!(rt; chains.starts_with(front));
-    let found = contigs_in(alloc, &nodes, 19)?;
-    assert!(rt; found == chains);
+    for ranks in 1..4 {
+        let found = contigs_over(&rt, alloc, &nodes, 19, ranks)?;
+        assert!(rt; found == chains);
+    }
     Ok(())
 }

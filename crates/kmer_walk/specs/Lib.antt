@@ -1,0 +1,7 @@
+pub mod Nodes
+pub mod Book
+pub mod Fills
+pub mod Finds
+pub mod Checks
+pub mod Texts
+pub mod Faults
