@@ -1,3 +1,4 @@
 pub mod Verdicts
 pub mod Owing
 pub mod Told
+pub mod Headlines

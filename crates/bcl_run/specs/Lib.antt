@@ -1,3 +1,4 @@
 pub mod Verdict
 pub mod Book
 pub mod Owed
+pub mod Headline

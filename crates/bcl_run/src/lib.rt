@@ -4,7 +4,7 @@
 //! function of the words and of all that the source had left, and the book of the shared map is that of a count of it or of
 //! its contigs; and each other status says why nothing more was written.
 //!
-//! - `program`: `top`, the whole program over its devices.
+//! - `program`: `top`, the whole program over its devices, and `top_own`, the same where no rank waits.
 //! - `answer`: the text that an input asks for with its book, or why it is refused.
 //! - `book`: the book of a run.
 //!
@@ -19,6 +19,6 @@ mod tests;
 
 pub use answer::MAX_BYTES;
 pub use bcl_message::Refusal;
-pub use bcl_settings::{Choice, Settings, reads_once, settings_of};
+pub use bcl_settings::{Choice, Settings, names_any, reads_once, settings_of};
 pub use book::Book;
-pub use program::{Ended, top};
+pub use program::{Ended, top, top_own};

@@ -11,10 +11,11 @@ use Rattle.bcl_settings.specs.declared.options.CommandOption.{CommandOption}
 use Rattle.bcl_settings.specs.declared.options.CommandOption.TheVariants.{Ranks, Min, Promise}
 use Rattle.bcl_settings.specs.declared.options.Options.{Options}
 use Rattle.bcl_settings.specs.declared.settings.Choice.{Choice}
+use Rattle.bcl_settings.specs.declared.settings.Choice.TheVariants.{Own, Any}
 use Rattle.bcl_settings.specs.declared.settings.Settings.{Settings}
 use Rattle.bcl_settings.specs.declared.settings.Settings.TheVariants.{Count, Contigs, Drill}
 use Rattle.bcl_settings.specs.Options.{OptionInRange, with_value, with_hist, options, NamesOptions}
-use Rattle.bcl_settings.specs.Settings.{ModeInRange, with_options, IsOffered, AsksFor}
+use Rattle.bcl_settings.specs.Settings.{ModeInRange, with_options, IsOffered, AsksFor, NamesAny, choice_of}
 use Rattle.bcl_settings.proofs.Reading.{later_in}
 
 -- ---- settings tell their mode, and its numbers
@@ -127,3 +128,15 @@ contigs_plan_asked words k ranks choice p = contigs_plan_mode p.mode p.said k ra
 -- no words ask for a drill yet
 pub drill_unasked : (words : List (List ℕ)) (number lines k ranks : ℕ) (choice : Choice) → AsksFor words (Drill number lines k ranks choice) → ⊥
 drill_unasked words number lines k ranks choice p = drill_mode p.mode p.said number lines k ranks choice p.offered p.settings_are
+
+-- no words ask for a run in which a rank changes any key yet
+own_alone : (mode : Mode) (said : Options) (settings : Settings) → IsOffered mode said → with_options mode said ≡ Some settings → choice_of settings ≡ Own
+own_alone (modes.Count j) said settings offered e = sym (told choice_of _ _ e) ∙ ap (λ (o : Option Choice). unwrap_or o Own) offered.1
+own_alone (modes.Contigs j) said settings offered e = sym (told_if choice_of (is_some said.min || said.hist) _ _ e) ∙ ap (λ (o : Option Choice). unwrap_or o Own) offered.1
+own_alone (modes.Drill number lines j) said settings offered e = absurd offered
+
+pub none_names_any : (words : List (List ℕ)) → NamesAny words → ⊥
+none_names_any words any =
+    let asks = any.1 in
+    let same : Own ≡ Any = sym (own_alone asks.mode asks.said any.0 asks.offered asks.settings_are) ∙ any.2 in
+    cc (same)
